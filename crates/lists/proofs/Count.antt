@@ -1,0 +1,73 @@
+-- Counting the numbers below a bound, and lists of different numbers below it.
+use mathlib.Core.Path.{_≡_, refl, ap}
+use mathlib.Core.Bool.{Bool, true, not}
+use mathlib.Core.List.{List, [], _∷_}
+use Prim.Native.Nat.{ℕ, suc, zero, _+_, _≤_, _<_}
+use native.Mathlib.Omega.{arith}
+use lib.ListN.{length}
+use lib.Dec.{eqb}
+use borrow.Author.Tests.{eqb-true, ne-eqb}
+use Rattle.lists.specs.Lists.{filter, elem, bit, everyBelow, countBelow}
+use Rattle.lists.proofs.Tests.{cases, and-intro, and-left, and-right}
+use Rattle.lists.proofs.Occurs.{occurs, bit-le, eqb-refl, lt-of-le-ne, elem-occurs, elem-filter, occurs-once, occurs-filtered-out, occurs-filter-le}
+
+pub everyBelow-intro : (n : ℕ) (f : ℕ → Bool) → ((t : ℕ) → t < n → f t ≡ true) → everyBelow n f ≡ true
+unfolding everyBelow
+everyBelow-intro zero f h = refl
+everyBelow-intro (suc n) f h = and-intro (everyBelow-intro n f (λ t l. h t (omega arith))) (h n (omega arith))
+
+pub everyBelow-at : (n : ℕ) (f : ℕ → Bool) → everyBelow n f ≡ true → (t : ℕ) → t < n → f t ≡ true
+unfolding everyBelow
+everyBelow-at zero f h t l = absurd (omega arith)
+everyBelow-at (suc n) f h t l = cases (eqb t n)
+    (λ e. rw (eqb-true t n e) (and-right (everyBelow n f) (f n) h))
+    (λ e. everyBelow-at n f (and-left (everyBelow n f) (f n) h) t (lt-of-le-ne t n (omega arith) e))
+
+pub countBelow-ext : (n : ℕ) (f g : ℕ → Bool) → ((t : ℕ) → t < n → f t ≡ g t) → countBelow n f ≡ countBelow n g
+unfolding countBelow
+countBelow-ext zero f g h = refl
+countBelow-ext (suc n) f g h =
+    let ih = countBelow-ext n f g (λ t l. h t (omega arith)) in
+    omega (arith, ap bit (h n (omega arith)))
+
+module _ (n : ℕ) (l : List ℕ) where
+  abbrev others : List ℕ
+  others = filter (λ x. not (eqb n x)) l
+
+  length-others : length l ≡ length others + occurs n l
+  length-others = go l
+    where
+      go : (l : List ℕ) → length l ≡ length (filter (λ x. not (eqb n x)) l) + occurs n l
+      go [] = omega arith
+      go (x ∷ xs) = let ih = go xs in cases (eqb n x) (λ e. rw e (omega arith)) (λ e. rw e (omega arith))
+
+  others-below : ((t : ℕ) → suc n ≤ t → occurs t l ≡ 0) → (t : ℕ) → n ≤ t → occurs t others ≡ 0
+  others-below none t h = cases (eqb n t)
+      (λ e. occurs-filtered-out (λ x. not (eqb n x)) t l (cc))
+      (λ e. omega (arith, none t (lt-of-le-ne n t h e), occurs-filter-le (λ x. not (eqb n x)) t l))
+
+-- A list of different numbers below n is as long as the count of those that stand in it.
+pub length-count : (n : ℕ) (l : List ℕ) → ((t : ℕ) → occurs t l ≤ 1) → ((t : ℕ) → n ≤ t → occurs t l ≡ 0)
+    → length l ≡ countBelow n (λ t. elem t l)
+unfolding countBelow
+length-count zero [] one none = refl
+length-count zero (x ∷ xs) one none =
+    absurd (omega (arith, none x (omega arith), elem-occurs x (x ∷ xs) (rw (eqb-refl x))))
+length-count (suc n) l one none =
+    let m = others n l in
+    let fewer : (t : ℕ) → occurs t m ≤ 1 = λ t. omega (arith, one t, occurs-filter-le (λ x. not (eqb n x)) t l) in
+    let ih = length-count n m fewer (others-below n l none) in
+    let same = countBelow-ext n (λ t. elem t m) (λ t. elem t l) (λ t h. elem-others t h) in
+    omega (arith, length-others n l, occurs-once n l (one n))
+  where
+    elem-others : (t : ℕ) → t < n → elem t (others n l) ≡ elem t l
+    elem-others t h =
+        elem-filter (λ x. not (eqb n x)) t l (ap not (ne-eqb n t (λ e. omega arith)))
+
+countBelow-le : (n : ℕ) (f : ℕ → Bool) → countBelow n f ≤ n
+unfolding countBelow
+countBelow-le zero f = omega arith
+countBelow-le (suc n) f = omega (arith, countBelow-le n f, bit-le (f n))
+
+pub length-le : (n : ℕ) (l : List ℕ) → ((t : ℕ) → occurs t l ≤ 1) → ((t : ℕ) → n ≤ t → occurs t l ≡ 0) → length l ≤ n
+length-le n l one none = omega (arith, length-count n l one none, countBelow-le n (λ t. elem t l))

@@ -1,0 +1,5 @@
+pub mod Tests
+pub mod Filter
+pub mod Update
+pub mod Occurs
+pub mod Count

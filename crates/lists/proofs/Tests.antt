@@ -1,0 +1,53 @@
+-- Laws of Boolean tests: going by cases, and what a conjunction or a disjunction tells.
+use mathlib.Core.Path.{_≡_, refl, sym, _∙_}
+use mathlib.Core.Logic.{_⊎_, ⊎-elim}
+use Prim.Native.Nat.{ℕ}
+use native.Mathlib.Omega.{arith}
+use mathlib.Core.Bool.{Bool, true, false, _&&_, _||_, Bool·beq, true≢false}
+
+pub cases {ℓ} : {P : Type ℓ} (b : Bool) → (b ≡ true → P) → (b ≡ false → P) → P
+cases true t f = t refl
+cases false t f = f refl
+
+pub clash {ℓ} : {P : Type ℓ} → (b : Bool) → b ≡ true → b ≡ false → P
+clash b t f = absurd (true≢false (sym t ∙ f))
+
+pub and-intro : {a b : Bool} → a ≡ true → b ≡ true → (a && b) ≡ true
+and-intro p q = cc
+
+pub and-left : (a b : Bool) → (a && b) ≡ true → a ≡ true
+and-left true b e = refl
+and-left false b e = e
+
+pub and-right : (a b : Bool) → (a && b) ≡ true → b ≡ true
+and-right true b e = e
+and-right false b e = clash true refl (sym e)
+
+pub or-left : (a b : Bool) → (a || b) ≡ false → a ≡ false
+or-left true b e = e
+or-left false b e = refl
+
+pub or-right : (a b : Bool) → (a || b) ≡ false → b ≡ false
+or-right true b e = clash true refl e
+or-right false b e = e
+
+pub or-intro : {a b : Bool} → a ≡ false → b ≡ false → (a || b) ≡ false
+or-intro p q = cc
+
+pub beq-true : (a b : Bool) → Bool·beq a b ≡ true → a ≡ b
+beq-true true true e = refl
+beq-true true false e = sym e
+beq-true false true e = e
+beq-true false false e = refl
+
+pub eq-beq : (a b : Bool) → a ≡ b → Bool·beq a b ≡ true
+eq-beq true b e = cc
+eq-beq false b e = cc
+
+-- a sum, by its cases
+pub by-cases {ℓ} : {A B : Type 0} {P : Type ℓ} → A ⊎ B → (A → P) → (B → P) → P
+by-cases w f g = ⊎-elim f g w
+
+-- what equates two numbers that differ is refuted
+pub never {ℓ} : {P : Type ℓ} → _≡_ {A = ℕ} 0 1 → P
+never e = absurd (omega arith)

@@ -1,0 +1,54 @@
+-- The list functions that the rules of the kernel are written with.
+use mathlib.Core.Bool.{Bool, true, false, not, cond, _&&_, _||_}
+use mathlib.Core.List.{List, [], _∷_, _++_}
+use Prim.Native.Nat.{ℕ, suc, zero, _+_, _-_}
+use lib.ListN.{length, replicate}
+use lib.Dec.{eqb}
+
+module _ {ℓ} {A : Type ℓ} where
+  -- the elements that pass the test, in their order
+  abbrev pub filter : (A → Bool) → List A → List A
+  filter f [] = []
+  filter f (x ∷ xs) = cond (f x) (x ∷ filter f xs) (filter f xs)
+
+  -- every element passes the test
+  abbrev pub all : (A → Bool) → List A → Bool
+  all f [] = true
+  all f (x ∷ xs) = f x && all f xs
+
+  -- each element changed by its place, which is counted from 0
+  abbrev pub update : (ℕ → A → A) → List A → List A
+  update f [] = []
+  update f (x ∷ xs) = f zero x ∷ update (λ i. f (suc i)) xs
+
+  -- the list, and then the filler up to n elements
+  abbrev pub padTo : ℕ → A → List A → List A
+  padTo n z xs = xs ++ replicate (n - length xs) z
+
+-- the number stands in the list
+abbrev pub elem : ℕ → List ℕ → Bool
+elem t [] = false
+elem t (x ∷ xs) = eqb t x || elem t xs
+
+-- the list without the numbers of ts, the others in their order
+abbrev pub without : List ℕ → List ℕ → List ℕ
+without ts l = filter (λ t. not (elem t ts)) l
+
+-- no number stands in the list twice
+abbrev pub distinct : List ℕ → Bool
+distinct [] = true
+distinct (x ∷ xs) = not (elem x xs) && distinct xs
+
+-- every number below n passes the test
+unfoldable pub everyBelow : ℕ → (ℕ → Bool) → Bool
+everyBelow zero f = true
+everyBelow (suc n) f = everyBelow n f && f n
+
+abbrev pub bit : Bool → ℕ
+bit true = 1
+bit false = 0
+
+-- how many numbers below n pass the test
+unfoldable pub countBelow : ℕ → (ℕ → Bool) → ℕ
+countBelow zero f = 0
+countBelow (suc n) f = countBelow n f + bit (f n)

@@ -1,0 +1,59 @@
+-- "The count that a wake or requeue answers depends on no sleeper at a word that the call doesn't name."
+use mathlib.Core.Path.{_≡_, refl, ap, _∙_}
+use mathlib.Core.Bool.{Bool, true}
+use Prim.Native.Nat.{ℕ, _+_}
+use lib.ListN.{length, take, drop}
+use Rattle.lists.specs.Lists.{filter}
+use Rattle.lists.proofs.Occurs.{filter-agree}
+use Rattle.rules.specs.declared.tables.State.{State}
+use Rattle.rules.specs.declared.tables.Thread.{Thread}
+use Rattle.rules.specs.declared.event.Command.{Command}
+use Rattle.rules.specs.declared.event.Command.the-variants.{Wait, Wake, Requeue, CmpRequeue, WakeOp, WaitBitset, WakeBitset, Unknown}
+use Rattle.rules.specs.declared.event.Call.{Call}
+use Rattle.rules.specs.declared.event.Event.the-variants.{Call as CallEvent}
+use Rattle.rules.specs.declared.answer.Answer.the-variants.{Count}
+use Rattle.rules.specs.Tables.{World, threadOf, queue}
+use Rattle.rules.specs.Answers.{Outcome}
+use Rattle.rules.specs.Commands.{commandOf, uses}
+use Rattle.rules.specs.Calls.{isWakeOp, matches, secondCap, candidates, released, moved, releasedSecond, wait, wake, requeue, wakeOp, callEffect}
+use Rattle.rules.specs.Events.{effect, step}
+use Rattle.rules.specs.Claims.{SameSleepers, NamedAlike}
+use Rattle.rules.proofs.Taken.{counted-done}
+
+candidates-alike : (q : Thread → Bool) (p a : ℕ) (s u : State) → SameSleepers p a s u → candidates q p a s ≡ candidates q p a u
+unfolding candidates
+candidates-alike q p a s u h =
+    filter-agree (λ t. q (threadOf s t)) (λ t. q (threadOf u t)) (queue p a s) (λ t e. ap q (h .records t e))
+    ∙ ap (filter (λ t. q (threadOf u t))) (h .order)
+
+module _ (k : Command) (c : Call) (w v : World) (h : NamedAlike k c w v) where
+  released-alike : released k c (w .state) ≡ released k c (v .state)
+  unfolding released
+  released-alike = ap (take (c .val)) (candidates-alike (matches k c) (c .process) (c .uaddr) (w .state) (v .state) (h .first))
+
+  moved-alike : moved k c (w .state) ≡ moved k c (v .state)
+  unfolding moved
+  moved-alike = ap (λ l. take (secondCap c) (drop (c .val) l)) (candidates-alike (matches k c) (c .process) (c .uaddr) (w .state) (v .state) (h .first))
+
+  second-alike : uses k .second ≡ true → isWakeOp k ≡ true → releasedSecond k c w ≡ releasedSecond k c v
+  unfolding releasedSecond
+  second-alike two op =
+      cc (h .word op, released-alike, candidates-alike (matches k c) (c .process) (c .uaddr2) (w .state) (v .state) (h .second two))
+
+answer-alike : (k : Command) (c : Call) (w v : World) → NamedAlike k c w v → callEffect k c w .answer ≡ callEffect k c v .answer
+unfolding callEffect wait wake requeue wakeOp
+answer-alike Wait c w v h = refl
+answer-alike WaitBitset c w v h = refl
+answer-alike Wake c w v h = ap (λ l. Count (length l)) (released-alike Wake c w v h)
+answer-alike WakeBitset c w v h = ap (λ l. Count (length l)) (released-alike WakeBitset c w v h)
+answer-alike Requeue c w v h = ap (λ l. Count (length l + 0)) (released-alike Requeue c w v h)
+answer-alike CmpRequeue c w v h = cc (released-alike CmpRequeue c w v h, moved-alike CmpRequeue c w v h)
+answer-alike WakeOp c w v h = cc (released-alike WakeOp c w v h, second-alike WakeOp c w v h refl refl)
+answer-alike Unknown c w v h = refl
+
+pub count-local : (c : Call) (w v : World) (m n : ℕ) → NamedAlike (commandOf (c .op)) c w v
+    → step (CallEvent c) w .answer ≡ Count m → step (CallEvent c) v .answer ≡ Count n → m ≡ n
+unfolding effect
+count-local c w v m n h a b =
+    let same : callEffect (commandOf (c .op)) c w .answer ≡ callEffect (commandOf (c .op)) c v .answer = answer-alike (commandOf (c .op)) c w v h in
+    cc (a, b, ap (λ (o : Outcome). o .answer) (counted-done (CallEvent c) w m a), ap (λ (o : Outcome). o .answer) (counted-done (CallEvent c) v n b))

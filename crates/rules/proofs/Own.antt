@@ -1,0 +1,312 @@
+-- An event of the process, on the view, is answered and leaves what it does on the whole; a clock event leaves it.
+use mathlib.Core.Path.{_≡_, refl, sym, ap, _∙_, subst₂}
+use mathlib.Core.Bool.{Bool, true, false, not, _&&_, and-false}
+use mathlib.Core.List.{[], _∷_, _++_}
+use Prim.Native.Nat.{ℕ, suc, zero, _<_}
+use native.Mathlib.Omega.{arith}
+use lib.ListN.{take, drop}
+use borrow.Author.Tests.{lt-leb}
+use Rattle.lists.specs.Lists.{filter, all}
+use Rattle.lists.proofs.Tests.{cases}
+use Rattle.lists.proofs.Filter.{filter-within, filter-all, filter-filter, all-weaken, all-append}
+use Rattle.rules.specs.declared.tables.State.{State}
+use Rattle.rules.specs.declared.tables.Thread.{Thread}
+use Rattle.rules.specs.declared.tables.LastAnswer.the-variants.{Woken, TimedOut, Interrupted}
+use Rattle.rules.specs.declared.event.Command.{Command}
+use Rattle.rules.specs.declared.event.Command.the-variants.{Wait, Wake, Requeue, CmpRequeue, WakeOp, WaitBitset, WakeBitset, Unknown}
+use Rattle.rules.specs.declared.event.Call.{Call}
+use Rattle.rules.specs.declared.event.Event.{Event}
+use Rattle.rules.specs.declared.event.Event.the-variants.{Call as CallEvent, Store, Clock, Interrupt, Query}
+use Rattle.rules.specs.declared.answer.Answer.the-variants.{Refused, Waiting}
+use Rattle.rules.specs.declared.answer.Errno.{Errno}
+use Rattle.rules.specs.Sizes.{threads, threadsPerProcess}
+use Rattle.rules.specs.Tables.{World, threadNumber, threadOf, arrivals, wordAt, endSleeps, withClock, withState, tablesOk}
+use Rattle.rules.specs.Answers.{Outcome, outcome}
+use Rattle.rules.specs.Commands.{commandOf, uses}
+use Rattle.rules.specs.WakeOp.{newWord}
+use Rattle.rules.specs.Calls.{wrongMemory, noThread, caller, secondCap, matches, candidates, released, moved, releasedSecond, wait, wake, requeue, wakeOp, callEffect, callRefusals, full}
+use Rattle.rules.specs.Events.{refusals, expired, expiredSleepers, clockEffect, interruptEffect, bitsBelow, waitingSet, panel, effect, step}
+use Rattle.rules.proofs.Rows.{Same, Clear, same-first, clear-pass, verdicts, step-refused, step-passed}
+use Rattle.rules.proofs.Sound.{room}
+use Rattle.rules.proofs.Preserved.{Valid}
+use Rattle.rules.proofs.Passed.{Passed, clear-passed, caller-below, memory-right, sound-right, thread-process, thread-index, uaddr-inside, uaddr2-inside}
+use Rattle.rules.proofs.Chosen.{candidate, candidate-own, candidates-are, released-pass, moved-pass, second-pass, atFirst, atSecond}
+use Rattle.rules.proofs.View.{ownThread, viewState, view, own-thread, view-arrivals, view-own, view-clock, view-word, view-end, view-move, view-sleep-own, view-with-clock, view-write-own, view-valid}
+
+abbrev pub viewOut : ℕ → Outcome → Outcome
+viewOut p o = outcome (o .answer) (view p (o .world))
+
+pub view-state : (p : ℕ) (w : World) → view p w .state ≡ viewState p (w .state)
+unfolding view
+view-state p w = refl
+
+pub view-with-state : (p : ℕ) (s : State) (w : World) → view p (withState s w) ≡ withState (viewState p s) (view p w)
+unfolding view
+view-with-state p s w = refl
+
+-- whom the process's wakes and requeues take: own sleepers, whom the view shows
+module _ (p : ℕ) where
+  own-candidates : (q : Thread → Bool) (a : ℕ) (s : State) → candidates q p a (viewState p s) ≡ candidates q p a s
+  own-candidates q a s =
+      candidates-are q p a (viewState p s)
+      ∙ ap (filter (candidate q p a (viewState p s))) (view-arrivals p s)
+      ∙ filter-within (candidate q p a (viewState p s)) (candidate q p a s) (ownThread p) same none (arrivals s)
+      ∙ sym (candidates-are q p a s)
+    where
+      same : (t : ℕ) → ownThread p t ≡ true → candidate q p a (viewState p s) t ≡ candidate q p a s t
+      same t e = rw (view-own p s t e)
+
+      none : (t : ℕ) → ownThread p t ≡ false → candidate q p a s t ≡ false
+      none t e = rw e (and-false (q (threadOf s t)))
+
+module _ (k : Command) (c : Call) where
+  pub released-own : (s : State) → all (ownThread (c .process)) (released k c s) ≡ true
+  released-own s = all-weaken (atFirst k c s) _ (candidate-own (matches k c) (c .process) (c .uaddr) s) (released k c s) (released-pass k c s)
+
+  pub moved-own : (s : State) → all (ownThread (c .process)) (moved k c s) ≡ true
+  moved-own s = all-weaken (atFirst k c s) _ (candidate-own (matches k c) (c .process) (c .uaddr) s) (moved k c s) (moved-pass k c s)
+
+  pub second-own : (w : World) → all (ownThread (c .process)) (releasedSecond k c w) ≡ true
+  second-own w =
+      all-weaken (atSecond k c (w .state)) _ (candidate-own (matches k c) (c .process) (c .uaddr2) (w .state)) (releasedSecond k c w) (second-pass k c w)
+
+  released-view : (s : State) → released k c (viewState (c .process) s) ≡ released k c s
+  unfolding released
+  released-view s = ap (take (c .val)) (own-candidates (c .process) (matches k c) (c .uaddr) s)
+
+  moved-view : (s : State) → moved k c (viewState (c .process) s) ≡ moved k c s
+  unfolding moved
+  moved-view s = ap (λ l. take (secondCap c) (drop (c .val) l)) (own-candidates (c .process) (matches k c) (c .uaddr) s)
+
+  second-view : (w : World) → wordAt (view (c .process) w) (c .process) (c .uaddr2) ≡ wordAt w (c .process) (c .uaddr2)
+      → releasedSecond k c (view (c .process) w) ≡ releasedSecond k c w
+  unfolding releasedSecond
+  second-view w e =
+      cc (e, view-state (c .process) w, released-view (w .state), own-candidates (c .process) (matches k c) (c .uaddr2) (w .state))
+
+-- the commands
+module _ (k : Command) (c : Call) (w : World) (g : Passed k c w) where
+  wait-own : viewOut (c .process) (wait k c w) ≡ wait k c (view (c .process) w)
+  unfolding wait
+  wait-own =
+      let p = c .process in
+      cc (view-with-state p _ w, view-sleep-own p _ (caller c) (w .state) (own-thread p (c .index) (g .index)), view-state p w, view-clock p (w .state))
+
+  wake-own : viewOut (c .process) (wake k c w) ≡ wake k c (view (c .process) w)
+  unfolding wake
+  wake-own =
+      let p = c .process in
+      let out = released k c (w .state) in
+      cc (
+        view-with-state p (endSleeps Woken out (w .state)) w,
+        view-end p Woken out (w .state),
+        filter-all (ownThread p) out (released-own k c (w .state)),
+        view-state p w,
+        released-view k c (w .state),
+      )
+
+  requeue-own : viewOut (c .process) (requeue k c w) ≡ requeue k c (view (c .process) w)
+  unfolding requeue
+  requeue-own =
+      let p = c .process in
+      let out = released k c (w .state) in
+      let on = moved k c (w .state) in
+      cc (
+        view-with-state p _ w,
+        view-move p (c .uaddr2) on (endSleeps Woken out (w .state)),
+        view-end p Woken out (w .state),
+        filter-all (ownThread p) out (released-own k c (w .state)),
+        filter-all (ownThread p) on (moved-own k c (w .state)),
+        view-state p w,
+        released-view k c (w .state),
+        moved-view k c (w .state),
+      )
+
+  wakeOp-own : uses k .second ≡ true → viewOut (c .process) (wakeOp k c w) ≡ wakeOp k c (view (c .process) w)
+  unfolding wakeOp
+  wakeOp-own two =
+      let p = c .process in
+      let out = released k c (w .state) in
+      let out2 = releasedSecond k c w in
+      let near = uaddr2-inside k c (g .addresses) two in
+      let old = view-word p w (c .uaddr2) near in
+      cc (
+        view-write-own p (c .uaddr2) (newWord (c .val3) (wordAt w p (c .uaddr2))) (withState (endSleeps Woken (out ++ out2) (w .state)) w) near,
+        view-with-state p (endSleeps Woken (out ++ out2) (w .state)) w,
+        view-end p Woken (out ++ out2) (w .state),
+        filter-all (ownThread p) (out ++ out2) (all-append (ownThread p) out out2 (released-own k c (w .state)) (second-own k c w)),
+        view-state p w,
+        released-view k c (w .state),
+        second-view k c w old,
+        old,
+      )
+
+call-own : (k : Command) (c : Call) (w : World) → Passed k c w → viewOut (c .process) (callEffect k c w) ≡ callEffect k c (view (c .process) w)
+unfolding callEffect
+call-own Wait c w g = wait-own Wait c w g
+call-own WaitBitset c w g = wait-own WaitBitset c w g
+call-own Wake c w g = wake-own Wake c w g
+call-own WakeBitset c w g = wake-own WakeBitset c w g
+call-own Requeue c w g = requeue-own Requeue c w g
+call-own CmpRequeue c w g = requeue-own CmpRequeue c w g
+call-own WakeOp c w g = wakeOp-own WakeOp c w g refl
+call-own Unknown c w g = refl
+
+-- the tests: each is the same on the view, where those before it do not apply
+both-false : {a b : Bool} → a ≡ false → b ≡ false → a ≡ b
+both-false e d = e ∙ sym d
+
+module _ (p : ℕ) (w : World) (g : Valid w) where
+  same-memory : wrongMemory w ≡ wrongMemory (view p w)
+  same-memory = both-false (memory-right w (g .memory)) (memory-right (view p w) (view-valid p w g .memory))
+
+  same-tables : not (tablesOk (w .state)) ≡ not (tablesOk (view p w .state))
+  same-tables = both-false (sound-right w (g .sound)) (sound-right (view p w) (view-valid p w g .sound))
+
+  same-waiting : (i : ℕ) → i < threadsPerProcess
+      → threadOf (w .state) (threadNumber p i) .waiting ≡ threadOf (view p w .state) (threadNumber p i) .waiting
+  same-waiting i h = rw (view-state p w, view-own p (w .state) (threadNumber p i) (own-thread p i h))
+
+call-rows : (c : Call) (w : World) → Valid w → Same (callRefusals c w) (callRefusals c (view (c .process) w))
+unfolding callRefusals
+call-rows c w g =
+    let p = c .process in
+    let k = commandOf (c .op) in (
+      refl,
+      same-memory p w g,
+      λ h1. (
+        refl,
+        same-tables p w g,
+        λ h2. (
+          refl,
+          refl,
+          λ h3. (
+            refl,
+            same-waiting p w g (c .index) (thread-index p (c .index) h3),
+            λ h4. (
+              refl,
+              refl,
+              λ h5. (
+                refl,
+                refl,
+                λ h6. (
+                  refl,
+                  refl,
+                  λ h7. (
+                    refl,
+                    refl,
+                    λ h8. (
+                      refl,
+                      rw (view-word p w (c .uaddr) (uaddr-inside k c h7)),
+                      λ h9. (
+                        refl,
+                        rw (view-state p w, view-clock p (w .state)),
+                        λ h10.
+                            (refl, room-too h3 h4, λ h11. tt),
+                      ),
+                    ),
+                  ),
+                ),
+              ),
+            ),
+          ),
+        ),
+      ),
+    )
+  where
+    room-too : noThread (c .process) (c .index) ≡ false → threadOf (w .state) (caller c) .waiting ≡ false
+        → full w ≡ full (view (c .process) w)
+    room-too h3 h4 =
+        let p = c .process in
+        let low = caller-below c (thread-process p (c .index) h3) (thread-index p (c .index) h3) in
+        let off = sym (same-waiting p w g (c .index) (thread-index p (c .index) h3)) ∙ h4 in
+        both-false
+        (lt-leb threads (w .state .count) (room (w .state) (g .sound) (caller c) low h4))
+        (lt-leb threads (view p w .state .count) (room (view p w .state) (view-valid p w g .sound) (caller c) low off))
+
+-- the panel
+bitsBelow-ext : (n : ℕ) (f h : ℕ → Bool) → ((i : ℕ) → i < n → f i ≡ h i) → bitsBelow n f ≡ bitsBelow n h
+unfolding bitsBelow
+bitsBelow-ext zero f h e = refl
+bitsBelow-ext (suc n) f h e = cc (bitsBelow-ext n f h (λ i l. e i (omega arith)), e n (omega arith))
+
+panel-own : (p : ℕ) (w : World) → Valid w → panel p (view p w .state) ≡ panel p (w .state)
+unfolding panel waitingSet
+panel-own p w g =
+    cc (
+      same-tables p w g,
+      bitsBelow-ext threadsPerProcess (λ i. threadOf (w .state) (threadNumber p i) .waiting) (λ i. threadOf (view p w .state) (threadNumber p i) .waiting) (same-waiting p w g),
+    )
+
+-- the sleepers whose deadline has come
+expired-view : (p now : ℕ) (s : State) → filter (ownThread p) (expiredSleepers now s) ≡ expiredSleepers now (viewState p s)
+unfolding expiredSleepers
+expired-view p now s =
+    filter-filter (ownThread p) (λ t. expired now (threadOf s t)) (arrivals s)
+    ∙ sym (ap (filter (λ t. expired now (threadOf (viewState p s) t))) (view-arrivals p s)
+    ∙ filter-within (λ t. expired now (threadOf (viewState p s) t)) (λ t. ownThread p t && expired now (threadOf s t)) (ownThread p) same none (arrivals s))
+  where
+    same : (t : ℕ) → ownThread p t ≡ true → expired now (threadOf (viewState p s) t) ≡ (ownThread p t && expired now (threadOf s t))
+    same t e = rw (e, view-own p s t e)
+
+    none : (t : ℕ) → ownThread p t ≡ false → (ownThread p t && expired now (threadOf s t)) ≡ false
+    none t e = rw e
+
+-- a step, where the tests and the effect are the same on the view
+module _ (p : ℕ) (e : Event) (w : World) (rows : Same (refusals e w) (refusals e (view p w))) where
+  by-rows : (P : Outcome → Outcome → Type 0) → ((x : Errno) → P (outcome (Refused x) w) (outcome (Refused x) (view p w)))
+      → (Clear (refusals e w) → P (effect e w) (effect e (view p w))) → P (step e w) (step e (view p w))
+  by-rows P refused passed =
+      let same = same-first (refusals e w) (refusals e (view p w)) rows in
+      verdicts e w
+      (λ x r. subst₂ P (sym (step-refused e w x r)) (sym (step-refused e (view p w) x (sym same ∙ r))) (refused x))
+      (λ r. let q = clear-pass (refusals e w) r in
+      subst₂ P (sym (step-passed e w q)) (sym (step-passed e (view p w) (sym same ∙ q))) (passed r))
+
+  own-step : (Clear (refusals e w) → viewOut p (effect e w) ≡ effect e (view p w)) → viewOut p (step e w) ≡ step e (view p w)
+  own-step h = by-rows (λ o u. viewOut p o ≡ u) (λ x. refl) h
+
+  kept-step : (Clear (refusals e w) → view p (effect e w .world) ≡ effect e (view p w) .world) → view p (step e w .world) ≡ step e (view p w) .world
+  kept-step h = by-rows (λ o u. view p (o .world) ≡ u .world) (λ x. refl) h
+
+module _ (w : World) (g : Valid w) where
+  pub step-call : (c : Call) → viewOut (c .process) (step (CallEvent c) w) ≡ step (CallEvent c) (view (c .process) w)
+  unfolding refusals effect
+  step-call c = own-step (c .process) (CallEvent c) w (call-rows c w g) (λ h. call-own (commandOf (c .op)) c w (clear-passed c w h))
+
+  pub step-store : (p a v : ℕ) → viewOut p (step (Store p a v) w) ≡ step (Store p a v) (view p w)
+  unfolding refusals effect
+  step-store p a v = own-step p (Store p a v) w
+      (refl, same-memory p w g, λ h1. (refl, same-tables p w g, λ h2. (refl, refl, λ h3. (refl, refl, λ h4. (refl, refl, λ h5. tt)))))
+      (λ h. cc (view-write-own p a v w (h .1 .1 .1 .1 .0)))
+
+  pub step-interrupt : (p i : ℕ) → viewOut p (step (Interrupt p i) w) ≡ step (Interrupt p i) (view p w)
+  unfolding refusals effect interruptEffect
+  step-interrupt p i = own-step p (Interrupt p i) w
+      (refl, same-memory p w g, λ h1. (refl, same-tables p w g, λ h2. (refl, refl, λ h3. tt)))
+      (λ h.
+      let t = threadNumber p i in
+      let small = thread-index p i (h .1 .1 .0) in
+      let on = same-waiting p w g i small in
+      let own = filter-all (ownThread p) (t ∷ []) (rw (own-thread p i small)) in
+      cases (threadOf (w .state) t .waiting)
+      (λ e. cc (on, view-with-state p (endSleeps Interrupted (t ∷ []) (w .state)) w, view-end p Interrupted (t ∷ []) (w .state), own, view-state p w))
+      (λ e. cc (on)))
+
+  pub step-query : (p : ℕ) → viewOut p (step (Query p) w) ≡ step (Query p) (view p w)
+  unfolding refusals effect
+  step-query p = own-step p (Query p) w tt (λ h. ap (λ v. outcome (Waiting v) (view p w)) (sym (panel-own p w g)))
+
+  pub step-clock : (p now : ℕ) → view p (step (Clock now) w .world) ≡ step (Clock now) (view p w) .world
+  unfolding refusals effect clockEffect
+  step-clock p now =
+      let out = expiredSleepers now (w .state) in
+      kept-step p (Clock now) w
+      (refl, same-memory p w g, λ h1. (refl, same-tables p w g, λ h2. (refl, rw (view-state p w, view-clock p (w .state)), λ h3. tt)))
+      (λ h. cc (
+        view-with-state p (endSleeps TimedOut out (withClock now (w .state))) w,
+        view-end p TimedOut out (withClock now (w .state)),
+        view-with-clock p now (w .state),
+        expired-view p now (w .state),
+        view-state p w,
+      ))

@@ -1,0 +1,154 @@
+-- A call that no row of the table of answers refuses: what is then known of it.
+use mathlib.Core.Path.{_≡_, ap}
+use mathlib.Core.Bool.{Bool, true, false, not, _&&_, _||_}
+use Prim.Native.Nat.{ℕ, _<_}
+use native.Mathlib.Omega.{arith}
+use lib.ListN.{length}
+use lib.Dec.{eqb, leb, ltb}
+use borrow.Author.Tests.{eqb-true, eq-eqb, leb-false, lt-leb, not-false}
+use Rattle.lists.proofs.Tests.{or-left, or-right, or-intro}
+use Rattle.rules.specs.declared.event.Command.{Command}
+use Rattle.rules.specs.declared.event.Call.{Call}
+use Rattle.rules.specs.Sizes.{processes, threadsPerProcess, threads, memoryWords, maxCap}
+use Rattle.rules.specs.Tables.{World, threadOf, aligned, tablesOk}
+use Rattle.rules.specs.Commands.{commandOf, notImplemented, isUnknown, bitSet, clockBit, uses}
+use Rattle.rules.specs.WakeOp.{undefinedOp}
+use Rattle.rules.specs.Calls.{wrongMemory, noProcess, noThread, caller, secondCap, badArgument, outside, badAddress, isWakeOp, differs, late, callRefusals}
+use Rattle.rules.proofs.Rows.{Clear}
+use Rattle.rules.proofs.Sound.{Sound, tables-sound, sound-tables, room}
+
+pub record Passed (k : Command) (c : Call) (w : World) : Type 0 where
+  pub memory : length (w .words) ≡ memoryWords
+  pub sound : Sound (w .state)
+  pub process : c .process < processes
+  pub index : c .index < threadsPerProcess
+  pub runs : threadOf (w .state) (caller c) .waiting ≡ false
+  pub known : isUnknown k ≡ false
+  pub monotonic : eqb (bitSet (c .op) clockBit) 1 ≡ false
+  pub arguments : badArgument k c ≡ false
+  pub addresses : badAddress k c ≡ false
+  pub defined : (isWakeOp k && undefinedOp (c .val3)) ≡ false
+  pub equal : differs k c w ≡ false
+  pub ahead : late k c w ≡ false
+
+-- sound memory and tables, and a process and a thread that exist, as the first rows test them
+pub memory-is : (w : World) → wrongMemory w ≡ false → length (w .words) ≡ memoryWords
+memory-is w h = eqb-true (length (w .words)) memoryWords (not-false _ h)
+
+pub memory-right : (w : World) → length (w .words) ≡ memoryWords → wrongMemory w ≡ false
+memory-right w h = ap not (eq-eqb (length (w .words)) memoryWords h)
+
+pub sound-of : (w : World) → not (tablesOk (w .state)) ≡ false → Sound (w .state)
+sound-of w h = tables-sound (w .state) (not-false _ h)
+
+pub sound-right : (w : World) → Sound (w .state) → not (tablesOk (w .state)) ≡ false
+sound-right w g = ap not (sound-tables (w .state) g)
+
+pub thread-process : (p i : ℕ) → noThread p i ≡ false → p < processes
+thread-process p i h = leb-false processes p (or-left (noProcess p) (leb threadsPerProcess i) h)
+
+pub thread-index : (p i : ℕ) → noThread p i ≡ false → i < threadsPerProcess
+thread-index p i h = leb-false threadsPerProcess i (or-right (noProcess p) (leb threadsPerProcess i) h)
+
+pub clear-passed : (c : Call) (w : World) → Clear (callRefusals c w) → Passed (commandOf (c .op)) c w
+unfolding callRefusals notImplemented
+clear-passed c w h =
+    let op = h .1 .1 .1 .1 .0 in
+    record {
+      memory = memory-is w (h .0);
+      sound = sound-of w (h .1 .0);
+      process = thread-process (c .process) (c .index) (h .1 .1 .0);
+      index = thread-index (c .process) (c .index) (h .1 .1 .0);
+      runs = h .1 .1 .1 .0;
+      known = or-left (isUnknown (commandOf (c .op))) (eqb (bitSet (c .op) clockBit) 1) op;
+      monotonic = or-right (isUnknown (commandOf (c .op))) (eqb (bitSet (c .op) clockBit) 1) op;
+      arguments = h .1 .1 .1 .1 .1 .0;
+      addresses = h .1 .1 .1 .1 .1 .1 .0;
+      defined = h .1 .1 .1 .1 .1 .1 .1 .0;
+      equal = h .1 .1 .1 .1 .1 .1 .1 .1 .0;
+      ahead = h .1 .1 .1 .1 .1 .1 .1 .1 .1 .0;
+    }
+
+pub caller-below : (c : Call) → c .process < processes → c .index < threadsPerProcess → caller c < threads
+caller-below c p i = omega arith
+
+-- The last row, -12, adds nothing: the caller runs, so the list has room.
+pub passed-clear : (c : Call) (w : World) → Passed (commandOf (c .op)) c w → Clear (callRefusals c w)
+unfolding callRefusals notImplemented
+passed-clear c w g = (
+  memory-right w (g .memory),
+  (
+    sound-right w (g .sound),
+    (
+      or-intro (lt-leb processes (c .process) (g .process)) (lt-leb threadsPerProcess (c .index) (g .index)),
+      (
+        g .runs,
+        (
+          or-intro (g .known) (g .monotonic),
+          (
+            g .arguments,
+            (
+              g .addresses,
+              (
+                g .defined,
+                (
+                  g .equal,
+                  (
+                    g .ahead,
+                    (
+                      lt-leb threads (w .state .count) (room (w .state) (g .sound) (caller c) (caller-below c (g .process) (g .index)) (g .runs)),
+                      tt,
+                    ),
+                  ),
+                ),
+              ),
+            ),
+          ),
+        ),
+      ),
+    ),
+  ),
+)
+
+-- what the argument rules tell
+module _ (k : Command) (c : Call) (h : badArgument k c ≡ false) where
+  abbrev caps : Bool
+  caps = uses k .cap && ltb maxCap (c .val) || uses k .second && ltb maxCap (secondCap c)
+
+  abbrev masks : Bool
+  masks = caps || uses k .mask && eqb (c .val3) 0
+
+  abbrev firsts : Bool
+  firsts = masks || not (aligned (c .uaddr))
+
+  abbrev seconds : Bool
+  seconds = firsts || uses k .second && not (aligned (c .uaddr2))
+
+  seconds-right : seconds ≡ false
+  unfolding badArgument
+  seconds-right = or-left seconds (uses k .move && eqb (c .uaddr) (c .uaddr2)) h
+
+  firsts-right : firsts ≡ false
+  firsts-right = or-left firsts (uses k .second && not (aligned (c .uaddr2))) seconds-right
+
+  pub uaddr-aligned : aligned (c .uaddr) ≡ true
+  uaddr-aligned = not-false _ (or-right masks (not (aligned (c .uaddr))) firsts-right)
+
+  pub uaddr2-aligned : uses k .second ≡ true → aligned (c .uaddr2) ≡ true
+  uaddr2-aligned e = not-false _ (rw e at (or-right firsts (uses k .second && not (aligned (c .uaddr2))) seconds-right))
+
+  pub mask-given : uses k .mask ≡ true → eqb (c .val3) 0 ≡ false
+  mask-given e = rw e at (or-right caps (uses k .mask && eqb (c .val3) 0) (or-left masks (not (aligned (c .uaddr))) firsts-right))
+
+  pub addresses-apart : uses k .move ≡ true → eqb (c .uaddr) (c .uaddr2) ≡ false
+  unfolding badArgument
+  addresses-apart e = rw e at (or-right seconds (uses k .move && eqb (c .uaddr) (c .uaddr2)) h)
+
+-- and the range of the addresses
+pub uaddr-inside : (k : Command) (c : Call) → badAddress k c ≡ false → outside (c .uaddr) ≡ false
+unfolding badAddress
+uaddr-inside k c h = or-left (outside (c .uaddr)) (uses k .second && outside (c .uaddr2)) h
+
+pub uaddr2-inside : (k : Command) (c : Call) → badAddress k c ≡ false → uses k .second ≡ true → outside (c .uaddr2) ≡ false
+unfolding badAddress
+uaddr2-inside k c h e = rw e at (or-right (outside (c .uaddr)) (uses k .second && outside (c .uaddr2)) h)

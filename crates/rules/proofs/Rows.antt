@@ -1,0 +1,72 @@
+-- The table of answers: the first row that applies, tables whose rows agree, and steps that no row refuses.
+use mathlib.Core.Path.{_≡_, refl, sym, ap}
+use mathlib.Core.Bool.{false}
+use mathlib.Core.List.{List, [], _∷_}
+use Prim.Native.Nat.{ℕ}
+use native.Mathlib.Omega.{arith}
+use Rattle.lists.proofs.Tests.{cases}
+use Rattle.rules.specs.declared.answer.Errno.{Errno}
+use Rattle.rules.specs.declared.answer.Verdict.{Verdict}
+use Rattle.rules.specs.declared.answer.Verdict.the-variants.{Refuse, Pass}
+use Rattle.rules.specs.declared.answer.Answer.the-variants.{Refused}
+use Rattle.rules.specs.declared.event.Event.{Event}
+use Rattle.rules.specs.Tables.{World}
+use Rattle.rules.specs.Answers.{Row, first, outcome, judged}
+use Rattle.rules.specs.Events.{refusals, effect, step}
+use Rattle.rules.specs.Claims.{FirstOf, here, later}
+
+-- no row applies
+abbrev pub Clear : List Row → Type 0
+Clear [] = Unit {0}
+Clear (r ∷ rs) = (r .applies ≡ false) × Clear rs
+
+pub not-pass {ℓ} : {P : Type ℓ} {x : Errno} → Refuse x ≡ Pass → P
+not-pass e = let z : _≡_ {A = ℕ} 0 1 = cc in absurd (omega arith)
+
+pub first-of : (x : Errno) (rs : List Row) → first rs ≡ Refuse x → FirstOf x rs
+first-of x [] h = not-pass (sym h)
+first-of x (r ∷ rs) h = cases (r .applies) (λ e. here e (cc)) (λ e. later e (first-of x rs (cc)))
+
+pub of-first : (x : Errno) (rs : List Row) → FirstOf x rs → first rs ≡ Refuse x
+of-first x (r ∷ rs) (here e n) = cc
+of-first x (r ∷ rs) (later e f) = cc (of-first x rs f)
+
+pub pass-clear : (rs : List Row) → first rs ≡ Pass → Clear rs
+pass-clear [] h = tt
+pass-clear (r ∷ rs) h = cases (r .applies) (λ e. not-pass {x = r .errno} (cc)) (λ e. (e, pass-clear rs (cc)))
+
+pub clear-pass : (rs : List Row) → Clear rs → first rs ≡ Pass
+clear-pass [] h = refl
+clear-pass (r ∷ rs) h = cc (h .0, clear-pass rs (h .1))
+
+-- The same errors in the same order, and each test the same where no earlier one applies.
+abbrev pub Same : List Row → List Row → Type 0
+Same [] [] = Unit {0}
+Same [] (q ∷ qs) = ⊥
+Same (r ∷ rs) [] = ⊥
+Same (r ∷ rs) (q ∷ qs) = (r .errno ≡ q .errno) × (r .applies ≡ q .applies) × (r .applies ≡ false → Same rs qs)
+
+pub same-first : (rs qs : List Row) → Same rs qs → first rs ≡ first qs
+same-first [] [] h = refl
+same-first [] (q ∷ qs) h = absurd h
+same-first (r ∷ rs) [] h = absurd h
+same-first (r ∷ rs) (q ∷ qs) h =
+    cases (r .applies) (λ e. cc (h .0, h .1)) (λ e. cc (h .1, same-first rs qs (h .2 e)))
+
+-- a step that a row refuses, and one that none does
+pub step-refused : (e : Event) (w : World) (x : Errno) → first (refusals e w) ≡ Refuse x → step e w ≡ outcome (Refused x) w
+unfolding step
+step-refused e w x h = ap (λ v. judged v (effect e w) w) h
+
+pub step-passed : (e : Event) (w : World) → first (refusals e w) ≡ Pass → step e w ≡ effect e w
+unfolding step
+step-passed e w h = ap (λ v. judged v (effect e w) w) h
+
+-- by cases, on what the table of answers says of an event
+pub verdicts {ℓ} : {P : Type ℓ} (e : Event) (w : World) → ((x : Errno) → first (refusals e w) ≡ Refuse x → P)
+    → (Clear (refusals e w) → P) → P
+verdicts {P = P} e w refused passed = go (first (refusals e w)) refl
+  where
+    go : (v : Verdict) → first (refusals e w) ≡ v → P
+    go (Refuse x) h = refused x h
+    go Pass h = passed (pass-clear (refusals e w) h)

@@ -1,0 +1,164 @@
+-- What is proved of the rules, demand by demand. Each theorem is stated here whole and cites its proof; specs/Claims.antt has the
+-- words that the statements use.
+use mathlib.Core.Path.{_≡_, refl, sym, ap, _∙_}
+use mathlib.Core.Bool.{true, cond}
+use mathlib.Core.List.{List, map}
+use mathlib.Core.Logic.{_⊎_, _↔_}
+use Prim.Native.Nat.{ℕ, _+_, _≤_, _<_}
+use lib.ListN.{length, take, drop}
+use Rattle.lists.specs.Lists.{filter}
+use Rattle.lists.proofs.Tests.{by-cases, clash}
+use Rattle.rules.specs.declared.tables.State.{State}
+use Rattle.rules.specs.declared.event.Command.{Command}
+use Rattle.rules.specs.declared.event.Command.the-variants.{Wake}
+use Rattle.rules.specs.declared.event.Call.{Call}
+use Rattle.rules.specs.declared.event.Event.{Event}
+use Rattle.rules.specs.declared.event.Event.the-variants.{Call as CallEvent}
+use Rattle.rules.specs.declared.answer.Errno.{Errno}
+use Rattle.rules.specs.declared.answer.Answer.{Answer}
+use Rattle.rules.specs.declared.answer.Answer.the-variants.{Asleep, Count, Refused}
+use Rattle.rules.specs.Sizes.{bytesPerProcess, memoryWords}
+use Rattle.rules.specs.Tables.{World, processOf, wordAt, threadOf, queue, tablesOk, withState, fallAsleep}
+use Rattle.rules.specs.Commands.{commandOf}
+use Rattle.rules.specs.Calls.{caller, secondCap, matches, candidates, released, moved}
+use Rattle.rules.specs.Events.{refusals, step}
+use Rattle.rules.specs.History.{start, final, strike, answersTo}
+use Rattle.rules.specs.Claims.{FirstOf, Sleeps, sleepsBy, Takes, wokenCount, shiftedCount, countsMoves, NamedAlike, Fate, asleepThere, sleptThrough, Since, Alike}
+use Rattle.rules.proofs.Rows.{first-of, of-first, step-refused}
+use Rattle.rules.proofs.Cases.{twelve, given, as-document-01-says}
+use Rattle.rules.proofs.Sound.{tables-sound, sound-tables}
+use Rattle.rules.proofs.Refused.{refused-row}
+use Rattle.rules.proofs.Preserved.{step-valid, final-valid, start-valid}
+use Rattle.rules.proofs.Sleeps as Sleeps′
+use Rattle.rules.proofs.Taken as Taken
+use Rattle.rules.proofs.Local as Local
+use Rattle.rules.proofs.Fate as Fate′
+use Rattle.rules.proofs.LostWake as LostWake
+use Rattle.rules.proofs.Isolation.{answers-view, final-view, start-alike, alike}
+
+-- Demand 1, for every event, any tables and words of any length.
+
+-- "Every call, store, clock event, interrupt, query .. is answered", by exactly one answer.
+pub one-answer : (e : Event) (w : World) → (a : Answer) × (step e w .answer ≡ a) × ((b : Answer) → step e w .answer ≡ b → b ≡ a)
+one-answer e w = (step e w .answer, refl, λ b h. sym h)
+
+-- "A refusal gives the one answer that document 01 fixes": that of the first row that applies, exactly when there is one.
+pub refused-exactly : (e : Event) (w : World) (x : Errno) → (step e w .answer ≡ Refused x) ↔ FirstOf x (refusals e w)
+refused-exactly e w x = (
+  (λ h. first-of x (refusals e w) (refused-row e w x h)),
+  (λ f. ap (λ o. o .answer) (step-refused e w x (of-first x (refusals e w) f))),
+)
+
+-- "and the words, the thread records, the arrival list and the clock stay as they were"
+pub refusal-leaves-all : (e : Event) (w : World) (x : Errno) → step e w .answer ≡ Refused x → step e w .world ≡ w
+refusal-leaves-all e w x h = ap (λ o. o .world) (step-refused e w x (refused-row e w x h))
+
+-- Demand 2, waits.
+
+-- "A wait sleeps exactly when no check refuses it, the word equals the expected number and its deadline, if any, is still ahead."
+pub asleep-exactly : (c : Call) (w : World) → (step (CallEvent c) w .answer ≡ Asleep) ↔ Sleeps c w
+asleep-exactly c w = (Sleeps′.asleep-sleeps c w, Sleeps′.sleeps-asleep c w)
+
+-- "Can a wait ever trust a stale word?" A wait that sleeps saw, in the memory that it was lent, the number that it expects.
+pub sleeper-saw : (c : Call) (w : World) → step (CallEvent c) w .answer ≡ Asleep → wordAt w (c .process) (c .uaddr) ≡ c .val
+sleeper-saw c w h = asleep-exactly c w .0 h .equal
+
+-- It leaves the caller, with its record, at the end of the arrival list, and nothing else changed.
+pub asleep-leaves : (c : Call) (w : World) → step (CallEvent c) w .answer ≡ Asleep
+    → step (CallEvent c) w .world ≡ withState (fallAsleep (sleepsBy c w) (caller c) (w .state)) w
+asleep-leaves = Sleeps′.asleep-leaves
+
+-- Demand 2, wakes and requeues.
+
+-- "A wake or requeue takes the matching sleepers in arrival order up to its caps, neither more nor fewer."
+pub released-first : (k : Command) (c : Call) (s : State)
+    → released k c s ≡ take (c .val) (filter (λ t. matches k c (threadOf s t)) (queue (c .process) (c .uaddr) s))
+unfolding released candidates
+released-first k c s = refl
+
+pub moved-next : (k : Command) (c : Call) (s : State)
+    → moved k c s ≡ take (secondCap c) (drop (c .val) (filter (λ t. matches k c (threadOf s t)) (queue (c .process) (c .uaddr) s)))
+unfolding moved candidates
+moved-next k c s = refl
+
+-- Those run, or move with mask and deadline kept; every other record and the order of every other entry are as they were.
+pub takes-first : (c : Call) (w : World) (n : ℕ) → step (CallEvent c) w .answer ≡ Count n
+    → Takes (commandOf (c .op)) c w (step (CallEvent c) w .world)
+takes-first = Taken.takes-first
+
+-- The count "is the number of records that went from waiting to running, and, where moves count, of those still waiting whose
+-- address changed", whatever the event.
+pub counted : (e : Event) (w : World) (n : ℕ) → step e w .answer ≡ Count n
+    → n ≡ wokenCount w (step e w .world) + cond (countsMoves e) (shiftedCount w (step e w .world)) 0
+counted = Taken.counted
+
+-- "The count that a wake or requeue answers depends on no sleeper at a word that the call doesn't name."
+pub count-local : (c : Call) (w v : World) (m n : ℕ) → NamedAlike (commandOf (c .op)) c w v
+    → step (CallEvent c) w .answer ≡ Count m → step (CallEvent c) v .answer ≡ Count n → m ≡ n
+count-local = Local.count-local
+
+-- No lost wake.
+
+-- What an event does to a thread, whatever the tables: there is no other way to fall asleep or to come back.
+pub fate : (e : Event) (w : World) (t : ℕ) → Fate e w t
+fate = Fate′.fate
+
+-- Once a word differs from v, no wait that expects v sleeps there until the word is v again.
+pub stale-never-sleeps : (c : Call) (w : World) (v : ℕ) → c .val ≡ v → (wordAt w (c .process) (c .uaddr) ≡ v → ⊥)
+    → step (CallEvent c) w .answer ≡ Asleep → ⊥
+stale-never-sleeps c w v is differs h = differs (sleeper-saw c w h ∙ is)
+
+-- Over any history: a thread that is asleep at a word at its end slept there throughout, or entered by an event of the history, a
+-- wait that saw its number there or a requeue to it, and has slept there since.
+pub asleep-since : (t a : ℕ) (h : List Event) (w : World) → asleepThere t a (final h w) ≡ true
+    → (sleptThrough t a h w ≡ true) ⊎ Since t a h w
+asleep-since = LostWake.since
+
+-- A WAKE whose cap is not below the number of the word's sleepers leaves nobody asleep there. So after it a thread of the process
+-- is asleep at that word only by a later wait that saw its number there, or by a later requeue to it.
+pub no-lost-wake : (c : Call) (w : World) (n : ℕ) → commandOf (c .op) ≡ Wake → step (CallEvent c) w .answer ≡ Count n
+    → length (queue (c .process) (c .uaddr) (w .state)) ≤ c .val
+    → (h : List Event) (t : ℕ) → processOf t ≡ c .process
+    → asleepThere t (c .uaddr) (final h (step (CallEvent c) w .world)) ≡ true
+    → Since t (c .uaddr) h (step (CallEvent c) w .world)
+no-lost-wake c w n wake answer enough h t own asleep =
+    by-cases (asleep-since t (c .uaddr) h (step (CallEvent c) w .world) asleep)
+    (λ slept. clash (asleepThere t (c .uaddr) (step (CallEvent c) w .world))
+    (LostWake.starts-asleep t (c .uaddr) h (step (CallEvent c) w .world) slept)
+    (LostWake.wake-empties c w n wake answer enough t own))
+    (λ s. s)
+
+-- The twelve cases of document 01, P1 to P12, come out as it says.
+pub twelve-cases : map given twelve ≡ twelve
+twelve-cases = as-document-01-says
+
+-- The tables.
+
+-- An event keeps the table rules, from any tables that keep them.
+pub rules-kept : (e : Event) (w : World) → length (w .words) ≡ memoryWords → tablesOk (w .state) ≡ true
+    → tablesOk (step e w .world .state) ≡ true
+rules-kept e w n h =
+    sound-tables _ (step-valid e w (record { memory = n; sound = tables-sound (w .state) h }) .sound)
+
+-- From the fresh state, over full-length memory, every history leaves tables that keep the table rules, and memory of full length.
+pub rules-kept-always : (words : List ℕ) → length words ≡ memoryWords → (h : List Event)
+    → (tablesOk (final h (start words) .state) ≡ true) × (length (final h (start words) .words) ≡ memoryWords)
+rules-kept-always words n h =
+    let v = final-valid h (start words) (start-valid words n) in
+    (sound-tables _ (v .sound), v .memory)
+
+-- Demand 3, for any number p: "Take any of the eight processes and any two histories .. Both start from the fresh state over
+-- full-length memory, with equal words for that process. .. Strike from both the events that name another process. If equal lists
+-- are left, clock events included, then, whatever the other processes did, that process's events got the same answers in the same
+-- order .. At the end its words, its thread records and the order of its sleepers are the same too."
+pub isolation : (p : ℕ) (us vs : List ℕ) → length us ≡ memoryWords → length vs ≡ memoryWords
+    → ((a : ℕ) → a < bytesPerProcess → wordAt (start us) p a ≡ wordAt (start vs) p a)
+    → (g h : List Event) → strike p g ≡ strike p h
+    → (answersTo p g (start us) ≡ answersTo p h (start vs)) × Alike p (final g (start us)) (final h (start vs))
+isolation p us vs lu lv words g h e =
+    let same = start-alike p us vs (lu ∙ sym lv) words in
+    let gu = start-valid us lu in
+    let gv = start-valid vs lv in (
+      cc (answers-view p g (start us) gu, answers-view p h (start vs) gv),
+      alike p (final g (start us)) (final h (start vs)) (cc (final-view p g (start us) gu, final-view p h (start vs) gv)),
+    )

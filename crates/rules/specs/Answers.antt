@@ -1,0 +1,72 @@
+-- "Answers by number": the paper's numbers, and the table of answers' reading, "the first that applies answers".
+use mathlib.Core.Bool.{Bool, cond}
+use mathlib.Core.List.{List, [], _∷_}
+use Prim.Native.Nat.{ℕ}
+use lib.IntN.{ℤ, pos, negℤ}
+use Rattle.rules.specs.declared.tables.LastAnswer.{LastAnswer}
+use Rattle.rules.specs.declared.tables.LastAnswer.the-variants.{NoneYet, Woken, TimedOut, Interrupted}
+use Rattle.rules.specs.declared.answer.Errno.{Errno}
+use Rattle.rules.specs.declared.answer.Errno.the-variants.{ENXIO, EBADF, ESRCH, EBUSY, ENOSYS, EINVAL, EFAULT, EAGAIN, ETIMEDOUT, ENOMEM}
+use Rattle.rules.specs.declared.answer.Verdict.{Verdict}
+use Rattle.rules.specs.declared.answer.Verdict.the-variants.{Refuse, Pass}
+use Rattle.rules.specs.declared.answer.Answer.{Answer}
+use Rattle.rules.specs.declared.answer.Answer.the-variants.{Asleep, Count, Refused, Waiting}
+use Rattle.rules.specs.Tables.{World}
+
+-- "Numbers are those of the Linux headers."
+abbrev pub errnoNumber : Errno → ℕ
+errnoNumber ENXIO = 6
+errnoNumber EBADF = 9
+errnoNumber ESRCH = 3
+errnoNumber EBUSY = 16
+errnoNumber ENOSYS = 38
+errnoNumber EINVAL = 22
+errnoNumber EFAULT = 14
+errnoNumber EAGAIN = 11
+errnoNumber ETIMEDOUT = 110
+errnoNumber ENOMEM = 12
+
+-- To a host, "asleep" is this number.
+abbrev pub asleepNumber : ℕ
+asleepNumber = 2147483647
+
+-- "A call answers "asleep" or one signed 32-bit number: a count, or the error number negated"; a panel query gives three.
+abbrev pub answerNumbers : Answer → List ℤ
+answerNumbers Asleep = pos asleepNumber ∷ []
+answerNumbers (Count n) = pos n ∷ []
+answerNumbers (Refused x) = negℤ (pos (errnoNumber x)) ∷ []
+answerNumbers (Waiting v) = pos (v .waiting) ∷ pos (v .count) ∷ pos (v .lowest) ∷ []
+
+-- "The last answer is 1 until a sleep ends, then 0 (woken), -110 or -4."
+abbrev pub lastNumber : LastAnswer → ℤ
+lastNumber NoneYet = pos 1
+lastNumber Woken = pos 0
+lastNumber TimedOut = negℤ (pos 110)
+lastNumber Interrupted = negℤ (pos 4)
+
+-- A row of the table of answers: the error, and whether what it is given for applies.
+pub record Row : Type 0 where
+  pub errno : Errno
+  pub applies : Bool
+
+infix 70 _when_
+abbrev pub _when_ : Errno → Bool → Row
+x when b = record { errno = x; applies = b }
+
+-- "Tests come in this order; the first that applies answers."
+abbrev pub first : List Row → Verdict
+first [] = Pass
+first (r ∷ rs) = cond (r .applies) (Refuse (r .errno)) (first rs)
+
+-- What an event leaves: its answer, and the tables and words.
+pub record Outcome : Type 0 where
+  pub answer : Answer
+  pub world : World
+
+abbrev pub outcome : Answer → World → Outcome
+outcome a w = record { answer = a; world = w }
+
+-- "Each of these leaves words, records, list and clock unchanged"
+abbrev pub judged : Verdict → Outcome → World → Outcome
+judged (Refuse x) o w = outcome (Refused x) w
+judged Pass o w = o

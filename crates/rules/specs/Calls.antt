@@ -1,0 +1,178 @@
+-- The table of answers, row by row, and what each command does where no row applies.
+use mathlib.Core.Bool.{Bool, not, cond, _&&_, _||_}
+use mathlib.Core.List.{List, [], _∷_, _++_}
+use Prim.Native.Nat.{ℕ, _+_, _-_, _%_, min}
+use lib.ListN.{length, take, drop}
+use lib.Dec.{eqb, leb, ltb}
+use lib.Bits.{bitAnd}
+use Rattle.lists.specs.Lists.{filter, without}
+use Rattle.rules.specs.declared.tables.State.{State}
+use Rattle.rules.specs.declared.tables.Thread.{Thread}
+use Rattle.rules.specs.declared.tables.LastAnswer.the-variants.{Woken}
+use Rattle.rules.specs.declared.event.Command.{Command}
+use Rattle.rules.specs.declared.event.Command.the-variants.{Wait, Wake, Requeue, CmpRequeue, WakeOp, WaitBitset, WakeBitset, Unknown}
+use Rattle.rules.specs.declared.event.Call.{Call}
+use Rattle.rules.specs.declared.answer.Errno.the-variants.{ENXIO, EBADF, ESRCH, EBUSY, ENOSYS, EINVAL, EFAULT, EAGAIN, ETIMEDOUT, ENOMEM}
+use Rattle.rules.specs.declared.answer.Answer.the-variants.{Asleep, Count, Refused}
+use Rattle.rules.specs.Sizes.{processes, threadsPerProcess, threads, bytesPerProcess, memoryWords, wordLimit, timeLimit, matchAny, maxCap}
+use Rattle.rules.specs.Tables.{World, threadNumber, threadOf, wordAt, queue, aligned, tablesOk, endSleeps, moveSleeps, fallAsleep, asleepAt, writeWord, withState}
+use Rattle.rules.specs.Answers.{Row, _when_, Outcome, outcome}
+use Rattle.rules.specs.Commands.{commandOf, notImplemented, uses}
+use Rattle.rules.specs.WakeOp.{undefinedOp, newWord, compares}
+
+-- "the lent memory is not 8,192 words long"
+abbrev pub wrongMemory : World → Bool
+wrongMemory w = not (eqb (length (w .words)) memoryWords)
+
+-- "the tables break a table rule"
+abbrev pub brokenTables : World → Bool
+brokenTables w = not (tablesOk (w .state))
+
+-- "the process or index is above 7"
+abbrev pub noProcess : ℕ → Bool
+noProcess p = leb processes p
+
+abbrev pub noThread : ℕ → ℕ → Bool
+noThread p i = noProcess p || leb threadsPerProcess i
+
+abbrev pub caller : Call → ℕ
+caller c = threadNumber (c .process) (c .index)
+
+-- "The second cap is the timeout modulo 2^32; the flag is ignored."
+abbrev pub secondCap : Call → ℕ
+secondCap c = c .timeout % wordLimit
+
+-- "a wake cap or second cap in use is above 2147483647; the mask of a BITSET command is 0; an address in use is not a
+-- multiple of 4; REQUEUE or CMP_REQUEUE names the same address twice."
+unfoldable pub badArgument : Command → Call → Bool
+badArgument k c =
+    uses k .cap && ltb maxCap (c .val)
+    || uses k .second && ltb maxCap (secondCap c)
+    || uses k .mask && eqb (c .val3) 0
+    || not (aligned (c .uaddr))
+    || uses k .second && not (aligned (c .uaddr2))
+    || uses k .move && eqb (c .uaddr) (c .uaddr2)
+
+-- "an address in use is 4096 or more"
+abbrev pub outside : ℕ → Bool
+outside a = leb bytesPerProcess a
+
+unfoldable pub badAddress : Command → Call → Bool
+badAddress k c = outside (c .uaddr) || uses k .second && outside (c .uaddr2)
+
+-- "WAKE_OP with an undefined operation or comparison"
+abbrev pub isWakeOp : Command → Bool
+isWakeOp k = uses k .second && not (uses k .move)
+
+-- "Word at uaddr must equal val", of a CMP_REQUEUE "must equal val3"
+abbrev pub expected : Command → Call → ℕ
+expected k c = cond (uses k .deadline) (c .val) (c .val3)
+
+-- "a compared word differs"
+abbrev pub differs : Command → Call → World → Bool
+differs k c w = uses k .compare && not (eqb (wordAt w (c .process) (c .uaddr)) (expected k c))
+
+-- "Outside the log a flag above 1 counts as 1."
+abbrev pub timeoutGiven : Call → Bool
+timeoutGiven c = not (eqb (c .flag) 0)
+
+-- WAIT: "A timeout is relative: the deadline is clock + timeout, at most 2^64 - 1." WAIT_BITSET: "an absolute timeout".
+abbrev pub deadlineOf : Command → Call → ℕ → ℕ
+deadlineOf k c now = cond (uses k .mask) (c .timeout) (min (now + c .timeout) (timeLimit - 1))
+
+-- "a wait's deadline is at or before the clock"
+abbrev pub late : Command → Call → World → Bool
+late k c w = uses k .deadline && timeoutGiven c && leb (deadlineOf k c (w .state .clock)) (w .state .clock)
+
+-- "the arrival list already holds 64"
+abbrev pub full : World → Bool
+full w = leb threads (w .state .count)
+
+-- The table of answers.
+unfoldable pub callRefusals : Call → World → List Row
+callRefusals c w =
+    let k = commandOf (c .op) in
+    ENXIO when wrongMemory w
+    ∷ EBADF when brokenTables w
+    ∷ ESRCH when noThread (c .process) (c .index)
+    ∷ EBUSY when (threadOf (w .state) (caller c) .waiting)
+    ∷ ENOSYS when notImplemented (c .op)
+    ∷ EINVAL when badArgument k c
+    ∷ EFAULT when badAddress k c
+    ∷ ENOSYS when (isWakeOp k && undefinedOp (c .val3))
+    ∷ EAGAIN when differs k c w
+    ∷ ETIMEDOUT when late k c w
+    ∷ ENOMEM when full w
+    ∷ []
+
+-- "Mask is all ones", of a WAIT_BITSET "mask val3"
+abbrev pub maskOf : Command → Call → ℕ
+maskOf k c = cond (uses k .mask) (c .val3) matchAny
+
+abbrev pub sharesBit : ℕ → Thread → Bool
+sharesBit m r = not (eqb (bitAnd (r .bitset) m) 0)
+
+-- whom a wake may take: "for 10 only those whose mask shares a bit with val3, the others are passed over"
+abbrev pub matches : Command → Call → Thread → Bool
+matches k c r = not (uses k .mask) || sharesBit (c .val3) r
+
+-- The sleepers of a word that a wake or requeue may take, in the order in which it takes them. No other definition chooses.
+unfoldable pub candidates : (Thread → Bool) → ℕ → ℕ → State → List ℕ
+candidates q p a s = filter (λ t. q (threadOf s t)) (queue p a s)
+
+-- "Releases the first val sleepers at uaddr"
+unfoldable pub released : Command → Call → State → List ℕ
+released k c s = take (c .val) (candidates (matches k c) (c .process) (c .uaddr) s)
+
+-- "then the next sleepers, up to the second cap"
+unfoldable pub moved : Command → Call → State → List ℕ
+moved k c s = take (secondCap c) (drop (c .val) (candidates (matches k c) (c .process) (c .uaddr) s))
+
+-- "then, if old compares true with cmparg, the first of those still asleep at uaddr2, up to the second cap"
+unfoldable pub releasedSecond : Command → Call → World → List ℕ
+releasedSecond k c w =
+    cond (compares (c .val3) (wordAt w (c .process) (c .uaddr2)))
+    (take (secondCap c) (without (released k c (w .state)) (candidates (matches k c) (c .process) (c .uaddr2) (w .state))))
+    []
+
+-- WAIT 0, WAIT_BITSET 9
+unfoldable pub wait : Command → Call → World → Outcome
+wait k c w =
+    outcome Asleep
+    (withState
+    (fallAsleep
+    (asleepAt (c .uaddr) (maskOf k c) (timeoutGiven c) (deadlineOf k c (w .state .clock)))
+    (caller c)
+    (w .state))
+    w)
+
+-- WAKE 1, WAKE_BITSET 10. "Answer: how many."
+unfoldable pub wake : Command → Call → World → Outcome
+wake k c w =
+    outcome (Count (length (released k c (w .state)))) (withState (endSleeps Woken (released k c (w .state)) (w .state)) w)
+
+-- CMP_REQUEUE 4: "Answer: released plus moved." REQUEUE 3: "answer: released only"
+unfoldable pub requeue : Command → Call → World → Outcome
+requeue k c w =
+    outcome
+    (Count (length (released k c (w .state)) + cond (uses k .compare) (length (moved k c (w .state))) 0))
+    (withState (moveSleeps (c .uaddr2) (moved k c (w .state)) (endSleeps Woken (released k c (w .state)) (w .state))) w)
+
+-- WAKE_OP 5: "The old word at uaddr2 is kept aside, the new word stored, the first val released at uaddr, then .." "Answer: the sum."
+unfoldable pub wakeOp : Command → Call → World → Outcome
+wakeOp k c w =
+    outcome
+    (Count (length (released k c (w .state)) + length (releasedSecond k c w)))
+    (writeWord (c .process) (c .uaddr2) (newWord (c .val3) (wordAt w (c .process) (c .uaddr2)))
+    (withState (endSleeps Woken (released k c (w .state) ++ releasedSecond k c w) (w .state)) w))
+
+-- What a call does where no row applies; that an unknown command is refused was tested before.
+unfoldable pub callEffect : Command → Call → World → Outcome
+callEffect Wait c w = wait Wait c w
+callEffect WaitBitset c w = wait WaitBitset c w
+callEffect Wake c w = wake Wake c w
+callEffect WakeBitset c w = wake WakeBitset c w
+callEffect Requeue c w = requeue Requeue c w
+callEffect CmpRequeue c w = requeue CmpRequeue c w
+callEffect WakeOp c w = wakeOp WakeOp c w
+callEffect Unknown c w = outcome (Refused ENOSYS) w

@@ -1,0 +1,168 @@
+-- The words in which the theorems of proofs/Theorems.antt speak of the rules.
+use mathlib.Core.Path.{_≡_}
+use mathlib.Core.Bool.{Bool, true, false, not, cond, _&&_}
+use mathlib.Core.List.{List, [], _∷_, _++_}
+use mathlib.Core.Logic.{_⊎_}
+use Prim.Native.Nat.{ℕ, _%_, _<_}
+use lib.ListN.{length, set}
+use lib.Dec.{eqb}
+use Rattle.lists.specs.Lists.{filter, elem, without, countBelow}
+use Rattle.rules.specs.declared.tables.State.{State}
+use Rattle.rules.specs.declared.tables.Thread.{Thread}
+use Rattle.rules.specs.declared.tables.LastAnswer.{LastAnswer}
+use Rattle.rules.specs.declared.tables.LastAnswer.the-variants.{Woken, TimedOut, Interrupted}
+use Rattle.rules.specs.declared.event.Command.{Command}
+use Rattle.rules.specs.declared.event.Command.the-variants.{Wait, WaitBitset}
+use Rattle.rules.specs.declared.event.Call.{Call}
+use Rattle.rules.specs.declared.event.Event.{Event}
+use Rattle.rules.specs.declared.event.Event.the-variants.{Call as CallEvent, Store, Clock, Interrupt, Query}
+use Rattle.rules.specs.declared.answer.Errno.{Errno}
+use Rattle.rules.specs.Sizes.{processes, threadsPerProcess, threads, wordBytes, bytesPerProcess, memoryWords}
+use Rattle.rules.specs.Tables.{World, threadNumber, processOf, wordNumber, wordAt, running, threadOf, arrivals, queue, tablesOk, movedTo, asleepAt}
+use Rattle.rules.specs.Answers.{Row}
+use Rattle.rules.specs.Commands.{commandOf, bitSet, clockBit, uses}
+use Rattle.rules.specs.WakeOp.{newWord}
+use Rattle.rules.specs.Calls.{isWakeOp, caller, timeoutGiven, deadlineOf, maskOf, released, moved, releasedSecond}
+use Rattle.rules.specs.Events.{step, expired}
+use Rattle.rules.specs.History.{final}
+
+-- Refusals: x is the error of the first row that applies.
+pub data FirstOf (x : Errno) : List Row → Type 0 where
+  here : {r : Row} {rs : List Row} → r .applies ≡ true → r .errno ≡ x → FirstOf x (r ∷ rs)
+  later : {r : Row} {rs : List Row} → r .applies ≡ false → FirstOf x rs → FirstOf x (r ∷ rs)
+
+-- Waits: WAIT or WAIT_BITSET.
+abbrev pub IsWait : Command → Type 0
+IsWait k = (k ≡ Wait) ⊎ (k ≡ WaitBitset)
+
+-- "A wait sleeps exactly when no check refuses it, the word equals the expected number and its deadline, if any, is still ahead."
+pub record Sleeps (c : Call) (w : World) : Type 0 where
+  pub isWait : IsWait (commandOf (c .op))
+  -- no check refuses it: -6, -9, -3, -16, -38, -22, -14
+  pub memory : length (w .words) ≡ memoryWords
+  pub tables : tablesOk (w .state) ≡ true
+  pub process : c .process < processes
+  pub index : c .index < threadsPerProcess
+  pub runs : threadOf (w .state) (caller c) .waiting ≡ false
+  pub monotonic : bitSet (c .op) clockBit ≡ 1 → ⊥
+  pub mask : commandOf (c .op) ≡ WaitBitset → c .val3 ≡ 0 → ⊥
+  pub alignment : c .uaddr % wordBytes ≡ 0
+  pub inside : c .uaddr < bytesPerProcess
+  -- the word equals the expected number
+  pub equal : wordAt w (c .process) (c .uaddr) ≡ c .val
+  -- its deadline, if any, is still ahead
+  pub ahead : timeoutGiven c ≡ true → w .state .clock < deadlineOf (commandOf (c .op)) c (w .state .clock)
+
+-- the record of a sleeper whose call is c, made of the one that it had
+abbrev pub sleepsBy : Call → World → Thread → Thread
+sleepsBy c w = asleepAt (c .uaddr) (maskOf (commandOf (c .op)) c) (timeoutGiven c) (deadlineOf (commandOf (c .op)) c (w .state .clock))
+
+-- Wakes and requeues: whom a call releases, at its first word and, for WAKE_OP, at its second; and whom it moves.
+abbrev pub wokenBy : Command → Call → World → List ℕ
+wokenBy k c w = released k c (w .state) ++ cond (isWakeOp k) (releasedSecond k c w) []
+
+abbrev pub movedBy : Command → Call → World → List ℕ
+movedBy k c w = cond (uses k .move) (moved k c (w .state)) []
+
+-- From s to u, the threads `out` ran with the answer a, the threads `on` went to the target and to the list's end, and every other
+-- record and the order of every other entry are as they were.
+pub record Took (a : LastAnswer) (out on : List ℕ) (target : ℕ) (s u : State) : Type 0 where
+  pub ran : (t : ℕ) → elem t out ≡ true → threadOf u t ≡ running a
+  -- mask, deadline and last answer are kept
+  pub went : (t : ℕ) → elem t on ≡ true → threadOf u t ≡ movedTo target (threadOf s t)
+  pub stayed : (t : ℕ) → elem t out ≡ false → elem t on ≡ false → threadOf u t ≡ threadOf s t
+  pub order : arrivals u ≡ without on (without out (arrivals s)) ++ on
+
+-- What a call that is answered a count leaves: the clock too, and the words but for the one that WAKE_OP writes.
+pub record Takes (k : Command) (c : Call) (w v : World) : Type 0 where
+  pub took : Took Woken (wokenBy k c w) (movedBy k c w) (c .uaddr2) (w .state) (v .state)
+  pub clock : v .state .clock ≡ w .state .clock
+  pub words : v .words
+      ≡ cond (isWakeOp k)
+      (set (w .words) (wordNumber (c .process) (c .uaddr2)) (newWord (c .val3) (wordAt w (c .process) (c .uaddr2))))
+      (w .words)
+
+-- Counts: a record that went from waiting to running, and one that still waits, at another address.
+abbrev pub woke : State → State → ℕ → Bool
+woke s u t = threadOf s t .waiting && not (threadOf u t .waiting)
+
+abbrev pub shifted : State → State → ℕ → Bool
+shifted s u t = threadOf s t .waiting && threadOf u t .waiting && not (eqb (threadOf s t .uaddr) (threadOf u t .uaddr))
+
+abbrev pub wokenCount : World → World → ℕ
+wokenCount w v = countBelow threads (woke (w .state) (v .state))
+
+abbrev pub shiftedCount : World → World → ℕ
+shiftedCount w v = countBelow threads (shifted (w .state) (v .state))
+
+-- "where moves count": CMP_REQUEUE
+abbrev pub countsMoves : Event → Bool
+countsMoves (CallEvent c) = uses (commandOf (c .op)) .move && uses (commandOf (c .op)) .compare
+countsMoves (Store p a v) = false
+countsMoves (Clock now) = false
+countsMoves (Interrupt p i) = false
+countsMoves (Query p) = false
+
+-- the same sleepers at a word, in the same order and with the same records
+pub record SameSleepers (p a : ℕ) (s u : State) : Type 0 where
+  pub order : queue p a s ≡ queue p a u
+  pub records : (t : ℕ) → elem t (queue p a s) ≡ true → threadOf s t ≡ threadOf u t
+
+-- Two worlds that may differ in all but the sleepers at the words that the call names and, for WAKE_OP, the word that it reads.
+pub record NamedAlike (k : Command) (c : Call) (w v : World) : Type 0 where
+  pub first : SameSleepers (c .process) (c .uaddr) (w .state) (v .state)
+  pub second : uses k .second ≡ true → SameSleepers (c .process) (c .uaddr2) (w .state) (v .state)
+  pub word : isWakeOp k ≡ true → wordAt w (c .process) (c .uaddr2) ≡ wordAt v (c .process) (c .uaddr2)
+
+-- What an event does to a thread: its record before and after.
+abbrev pub before : World → ℕ → Thread
+before w t = threadOf (w .state) t
+
+abbrev pub after : Event → World → ℕ → Thread
+after e w t = threadOf (step e w .world .state) t
+
+pub data Fate (e : Event) (w : World) (t : ℕ) : Type 0 where
+  -- its record is as it was
+  stays : after e w t ≡ before w t → Fate e w t
+  -- it called a wait, and sleeps
+  sleeps : (c : Call) → e ≡ CallEvent c → t ≡ caller c → Sleeps c w → after e w t ≡ sleepsBy c w (before w t) → Fate e w t
+  -- a wake or requeue released it
+  wakes : (c : Call) → e ≡ CallEvent c → elem t (wokenBy (commandOf (c .op)) c w) ≡ true → after e w t ≡ running Woken → Fate e w t
+  -- a requeue moved it
+  moves : (c : Call) → e ≡ CallEvent c → elem t (movedBy (commandOf (c .op)) c w) ≡ true → after e w t ≡ movedTo (c .uaddr2) (before w t) → Fate e w t
+  -- the clock reached its deadline
+  timesOut : (now : ℕ) → e ≡ Clock now → expired now (before w t) ≡ true → after e w t ≡ running TimedOut → Fate e w t
+  -- an interrupt named it
+  isInterrupted : (p i : ℕ) → e ≡ Interrupt p i → t ≡ threadNumber p i → before w t .waiting ≡ true → after e w t ≡ running Interrupted → Fate e w t
+
+-- No lost wake: thread t is asleep at address a of its process.
+abbrev pub asleepThere : ℕ → ℕ → World → Bool
+asleepThere t a w = threadOf (w .state) t .waiting && eqb (threadOf (w .state) t .uaddr) a
+
+-- How a thread can come to be asleep at an address: by a wait of its own that sleeps there, and so saw its number there, or by a
+-- requeue to that address, by a thread of its process.
+pub data Enters (t a : ℕ) (e : Event) (w : World) : Type 0 where
+  byWait : (c : Call) → e ≡ CallEvent c → t ≡ caller c → c .uaddr ≡ a → Sleeps c w → Enters t a e w
+  byRequeue : (c : Call) → e ≡ CallEvent c → uses (commandOf (c .op)) .move ≡ true → c .process ≡ processOf t → c .uaddr2 ≡ a
+      → elem t (moved (commandOf (c .op)) c (w .state)) ≡ true → Enters t a e w
+
+-- asleep there before and after each event of the history
+abbrev pub sleptThrough : ℕ → ℕ → List Event → World → Bool
+sleptThrough t a [] w = asleepThere t a w
+sleptThrough t a (e ∷ es) w = asleepThere t a w && sleptThrough t a es (step e w .world)
+
+-- It entered by an event of the history, and has slept there since.
+pub record Since (t a : ℕ) (h : List Event) (w : World) : Type 0 where
+  pub earlier : List Event
+  pub entry : Event
+  pub later : List Event
+  pub split : h ≡ earlier ++ entry ∷ later
+  pub entered : Enters t a entry (final earlier w)
+  pub slept : sleptThrough t a later (step entry (final earlier w) .world) ≡ true
+
+-- Isolation. "At the end its words, its thread records and the order of its sleepers are the same too."
+pub record Alike (p : ℕ) (u v : World) : Type 0 where
+  pub words : (a : ℕ) → a < bytesPerProcess → wordAt u p a ≡ wordAt v p a
+  pub records : (i : ℕ) → i < threadsPerProcess → threadOf (u .state) (threadNumber p i) ≡ threadOf (v .state) (threadNumber p i)
+  -- "the arrival list's threads of that process, in list order"
+  pub order : filter (λ t. eqb (processOf t) p) (arrivals (u .state)) ≡ filter (λ t. eqb (processOf t) p) (arrivals (v .state))

@@ -1,0 +1,92 @@
+-- "Other events", and what any event is answered and leaves.
+use mathlib.Core.Bool.{Bool, not, cond, _&&_, _||_}
+use mathlib.Core.List.{List, [], _∷_}
+use Prim.Native.Nat.{ℕ, suc, zero, _+_, _*_, _^_}
+use lib.ListN.{length}
+use lib.Dec.{leb, ltb}
+use lib.Count.{ones, trailingZeros}
+use Rattle.lists.specs.Lists.{filter, bit}
+use Rattle.rules.specs.declared.tables.State.{State}
+use Rattle.rules.specs.declared.tables.Thread.{Thread}
+use Rattle.rules.specs.declared.tables.LastAnswer.the-variants.{TimedOut, Interrupted}
+use Rattle.rules.specs.declared.event.Event.{Event}
+use Rattle.rules.specs.declared.event.Event.the-variants.{Call, Store, Clock, Interrupt, Query}
+use Rattle.rules.specs.declared.answer.Errno.the-variants.{ENXIO, EBADF, ESRCH, EINVAL, EFAULT}
+use Rattle.rules.specs.declared.answer.Panel.{Panel}
+use Rattle.rules.specs.declared.answer.Answer.the-variants.{Count, Waiting}
+use Rattle.rules.specs.Sizes.{threadsPerProcess}
+use Rattle.rules.specs.Tables.{World, threadNumber, threadOf, arrivals, aligned, tablesOk, endSleeps, writeWord, withClock, withState}
+use Rattle.rules.specs.Answers.{Row, _when_, first, Outcome, outcome, judged}
+use Rattle.rules.specs.Commands.{commandOf}
+use Rattle.rules.specs.Calls.{wrongMemory, brokenTables, noProcess, noThread, outside, callRefusals, callEffect}
+
+-- What each event may be refused with, in order.
+unfoldable pub refusals : Event → World → List Row
+refusals (Call c) w = callRefusals c w
+-- "-6, -9, -3, -22 (not aligned), -14"
+refusals (Store p a v) w =
+    ENXIO when wrongMemory w
+    ∷ EBADF when brokenTables w
+    ∷ ESRCH when noProcess p
+    ∷ EINVAL when not (aligned a)
+    ∷ EFAULT when outside a
+    ∷ []
+-- "-6, -9, -22 if earlier than the clock"
+refusals (Clock now) w =
+    ENXIO when wrongMemory w ∷ EBADF when brokenTables w ∷ EINVAL when ltb now (w .state .clock) ∷ []
+-- "-6, -9, -3"
+refusals (Interrupt p i) w =
+    ENXIO when wrongMemory w ∷ EBADF when brokenTables w ∷ ESRCH when noThread p i ∷ []
+-- it is always answered
+refusals (Query p) w = []
+
+-- a sleeper "whose deadline is at or below it"
+abbrev pub expired : ℕ → Thread → Bool
+expired now r = r .waiting && r .timed && leb (r .deadline) now
+
+-- "every sleeper whose deadline is at or below it ends with -110"
+unfoldable pub expiredSleepers : ℕ → State → List ℕ
+expiredSleepers now s = filter (λ t. expired now (threadOf s t)) (arrivals s)
+
+-- "the clock is set, every sleeper .. ends with -110, and the answer is how many"
+unfoldable pub clockEffect : ℕ → World → Outcome
+clockEffect now w =
+    outcome (Count (length (expiredSleepers now (w .state))))
+    (withState (endSleeps TimedOut (expiredSleepers now (w .state)) (withClock now (w .state))) w)
+
+-- "1 and a sleeper ends with -4, or 0 if it was running"
+unfoldable pub interruptEffect : ℕ → World → Outcome
+interruptEffect t w =
+    cond (threadOf (w .state) t .waiting)
+    (outcome (Count 1) (withState (endSleeps Interrupted (t ∷ []) (w .state)) w))
+    (outcome (Count 0) w)
+
+-- the number whose bit i is set where f i holds, for each i below n
+unfoldable pub bitsBelow : ℕ → (ℕ → Bool) → ℕ
+bitsBelow zero f = 0
+bitsBelow (suc n) f = bitsBelow n f + bit (f n) * 2 ^ n
+
+-- "one byte in which bit i is set for each waiting thread i"
+unfoldable pub waitingSet : ℕ → State → ℕ
+waitingSet p s = bitsBelow threadsPerProcess (λ i. threadOf s (threadNumber p i) .waiting)
+
+-- "the number of set bits, and the lowest set bit, or 8 if none"
+abbrev pub panelOf : ℕ → Panel
+panelOf b = record { waiting = b; count = ones b; lowest = trailingZeros threadsPerProcess b }
+
+-- "A process above 7 gives 0, 0, 8; so do tables that break a rule."
+unfoldable pub panel : ℕ → State → Panel
+panel p s = panelOf (cond (noProcess p || not (tablesOk s)) 0 (waitingSet p s))
+
+-- what an event does where nothing refuses it
+unfoldable pub effect : Event → World → Outcome
+effect (Call c) w = callEffect (commandOf (c .op)) c w
+-- "0 and that word changed. It wakes nobody."
+effect (Store p a v) w = outcome (Count 0) (writeWord p a v w)
+effect (Clock now) w = clockEffect now w
+effect (Interrupt p i) w = interruptEffect (threadNumber p i) w
+effect (Query p) w = outcome (Waiting (panel p (w .state))) w
+
+-- The kernel: what an event is answered, and the tables and words that it leaves.
+unfoldable pub step : Event → World → Outcome
+step e w = judged (first (refusals e w)) (effect e w) w

@@ -1,0 +1,56 @@
+-- Histories: lists of events, each of which "gets the tables and words that the one before it left".
+use mathlib.Core.Bool.{Bool, true, false, cond}
+use mathlib.Core.List.{List, [], _∷_}
+use Prim.Native.Nat.{ℕ}
+use lib.Dec.{eqb}
+use Rattle.lists.specs.Lists.{filter}
+use Rattle.rules.specs.declared.event.Event.{Event}
+use Rattle.rules.specs.declared.event.Event.the-variants.{Call, Store, Clock, Interrupt, Query}
+use Rattle.rules.specs.declared.answer.Answer.{Answer}
+use Rattle.rules.specs.Tables.{World, fresh}
+use Rattle.rules.specs.Events.{step}
+
+-- "the fresh state"; "Words at the start may be anything."
+abbrev pub start : List ℕ → World
+start words = record { state = fresh; words = words }
+
+-- what a history leaves
+abbrev pub final : List Event → World → World
+final [] w = w
+final (e ∷ es) w = final es (step e w .world)
+
+-- Whose event it is: the process that it names, if any.
+pub data Named : Type 0 where
+  process : ℕ → Named
+  nobody : Named
+
+-- "A call, store, interrupt or panel query belongs to the process that it names. A clock event belongs to none"
+abbrev pub named : Event → Named
+named (Call c) = process (c .process)
+named (Store p a v) = process p
+named (Clock now) = nobody
+named (Interrupt p i) = process p
+named (Query p) = process p
+
+abbrev pub isProcess : ℕ → Named → Bool
+isProcess p (process q) = eqb q p
+isProcess p nobody = false
+
+-- "and is kept for all"
+abbrev pub isKept : ℕ → Named → Bool
+isKept p (process q) = eqb q p
+isKept p nobody = true
+
+-- the event belongs to process p
+abbrev pub belongs : ℕ → Event → Bool
+belongs p e = isProcess p (named e)
+
+-- "Strike .. the events that name another process."
+abbrev pub strike : ℕ → List Event → List Event
+strike p h = filter (λ e. isKept p (named e)) h
+
+-- the answers that the process's events got, in order
+abbrev pub answersTo : ℕ → List Event → World → List Answer
+answersTo p [] w = []
+answersTo p (e ∷ es) w =
+    cond (belongs p e) (step e w .answer ∷ answersTo p es (step e w .world)) (answersTo p es (step e w .world))
