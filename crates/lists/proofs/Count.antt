@@ -1,8 +1,9 @@
 -- Counting the numbers below a bound, and lists of different numbers below it.
 use mathlib.Core.Path.{_≡_, refl, ap}
-use mathlib.Core.Bool.{Bool, true, not}
+use mathlib.Core.Bool.{Bool, true, not, _&&_}
 use mathlib.Core.List.{List, [], _∷_}
 use Prim.Native.Nat.{ℕ, suc, zero, _+_, _≤_, _<_}
+use native.Mathlib.Numerals.{add-one}
 use native.Mathlib.Omega.{arith}
 use lib.ListN.{length}
 use lib.Dec.{eqb}
@@ -22,6 +23,14 @@ everyBelow-at zero f h t l = absurd (omega arith)
 everyBelow-at (suc n) f h t l = cases (eqb t n)
     (λ e. rw (eqb-true t n e) (and-right (everyBelow n f) (f n) h))
     (λ e. everyBelow-at n f (and-left (everyBelow n f) (f n) h) t (lt-of-le-ne t n (omega arith) e))
+
+pub everyBelow-next : (n : ℕ) (f : ℕ → Bool) → everyBelow (n + 1) f ≡ (everyBelow n f && f n)
+everyBelow-next n f = rw (add-one n) (unfold everyBelow in refl)
+
+pub everyBelow-ext : (n : ℕ) (f g : ℕ → Bool) → ((t : ℕ) → t < n → f t ≡ g t) → everyBelow n f ≡ everyBelow n g
+unfolding everyBelow
+everyBelow-ext zero f g h = refl
+everyBelow-ext (suc n) f g h = cc (everyBelow-ext n f g (λ t l. h t (omega arith)), h n (omega arith))
 
 pub countBelow-ext : (n : ℕ) (f g : ℕ → Bool) → ((t : ℕ) → t < n → f t ≡ g t) → countBelow n f ≡ countBelow n g
 unfolding countBelow

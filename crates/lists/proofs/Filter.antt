@@ -1,6 +1,6 @@
 -- Laws of filter and all.
-use mathlib.Core.Path.{_≡_, refl}
-use mathlib.Core.Bool.{Bool, true, false, _&&_}
+use mathlib.Core.Path.{_≡_, refl, sym, _∙_}
+use mathlib.Core.Bool.{Bool, true, false, _&&_, and-comm}
 use mathlib.Core.List.{List, [], _∷_, _++_}
 use Prim.Native.Nat.{ℕ, suc, zero, _≤_}
 use native.Mathlib.Omega.{arith}
@@ -33,6 +33,9 @@ module _ {A : Type 0} where
   pub filter-ext : (f g : A → Bool) (l : List A) → ((x : A) → f x ≡ g x) → filter f l ≡ filter g l
   filter-ext f g [] h = refl
   filter-ext f g (x ∷ xs) h = cc (h x, filter-ext f g xs h)
+
+  pub filter-comm : (f g : A → Bool) (l : List A) → filter f (filter g l) ≡ filter g (filter f l)
+  filter-comm f g l = filter-filter f g l ∙ filter-ext (λ x. f x && g x) (λ x. g x && f x) l (λ x. and-comm (f x) (g x)) ∙ sym (filter-filter g f l)
 
   pub filter-true : (l : List A) → filter (λ x. true) l ≡ l
   filter-true [] = refl

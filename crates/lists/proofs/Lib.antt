@@ -3,3 +3,4 @@ pub mod Filter
 pub mod Update
 pub mod Occurs
 pub mod Count
+pub mod Loops

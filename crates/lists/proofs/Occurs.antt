@@ -4,9 +4,11 @@ use mathlib.Core.Bool.{Bool, true, false, not, _||_}
 use mathlib.Core.List.{List, [], _∷_, _++_}
 use Prim.Native.Nat.{ℕ, suc, zero, _+_, _≤_, _<_}
 use native.Mathlib.Omega.{arith}
-use lib.ListN.{take, drop}
+use native.Mathlib.Nat.{zero-add}
+use native.Mathlib.Numerals.{one-add}
+use lib.ListN.{length, take, drop, getD, replicate}
 use lib.Dec.{eqb, leb}
-use borrow.Author.Tests.{eqb-true, eqb-false, eq-eqb, leb-true, leb-false, not-true}
+use borrow.Author.Tests.{eqb-true, eqb-false, eq-eqb, ne-eqb, leb-true, leb-false, not-true}
 use Rattle.lists.specs.Lists.{filter, all, elem, without, distinct, bit}
 use Rattle.lists.proofs.Tests.{cases, clash, and-intro, and-left, and-right, or-left, or-right}
 
@@ -30,6 +32,11 @@ bit-injective false false e = refl
 
 pub eqb-refl : (t : ℕ) → eqb t t ≡ true
 eqb-refl t = eq-eqb t t refl
+
+pub eqb-sym : (a b : ℕ) → eqb a b ≡ eqb b a
+eqb-sym a b = cases (eqb a b)
+    (λ e. rw e (sym (eq-eqb b a (sym (eqb-true a b e)))))
+    (λ e. rw e (sym (ne-eqb b a (λ d. eqb-false a b e (sym d)))))
 
 pub lt-of-le-ne : (n t : ℕ) → n ≤ t → eqb n t ≡ false → n < t
 lt-of-le-ne n t h e =
@@ -144,3 +151,26 @@ pub filter-agree : (f g : ℕ → Bool) (l : List ℕ) → ((t : ℕ) → elem t
 filter-agree f g [] h = refl
 filter-agree f g (x ∷ xs) h =
     cc (h x (rw (eqb-refl x)), filter-agree f g xs (λ t e. h t (cases (eqb t x) (λ k. rw k) (λ k. rw (k, e)))))
+
+-- an element at a place stands in the list
+pub elem-getD : (l : List ℕ) (k d : ℕ) → k < length l → elem (getD l k d) l ≡ true
+elem-getD [] k d h = absurd (omega arith)
+elem-getD (x ∷ xs) zero d h = rw (eqb-refl x)
+elem-getD (x ∷ xs) (suc k) d h =
+    cases (eqb (getD xs k d) x) (λ e. rw e) (λ e. rw e (elem-getD xs k d (omega arith)))
+
+pub without-append : (us ts l : List ℕ) → without ts (without us l) ≡ without (us ++ ts) l
+without-append us ts [] = refl
+without-append us ts (x ∷ xs) =
+    let ih = without-append us ts xs in
+    let e = elem-append x us ts in
+    cases (elem x us) (λ d. cc) (λ d. cases (elem x ts) (λ k. cc) (λ k. cc))
+
+-- the entries that are a number, as often as it stands there
+pub filter-same : (t : ℕ) (l : List ℕ) → filter (λ u. eqb u t) l ≡ replicate (occurs t l) t
+filter-same t [] = refl
+filter-same t (x ∷ xs) =
+    let ih = filter-same t xs in
+    cases (eqb x t)
+    (λ e. rw (e, eqb-sym t x, e, eqb-true x t e) (rw (one-add (occurs t xs)) (ap (t ∷_) ih)))
+    (λ e. rw (e, eqb-sym t x, e, zero-add (occurs t xs)) ih)

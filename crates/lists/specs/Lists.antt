@@ -25,6 +25,12 @@ module _ {ℓ} {A : Type ℓ} where
   abbrev pub padTo : ℕ → A → List A → List A
   padTo n z xs = xs ++ replicate (n - length xs) z
 
+  -- what is left of the list when the first n elements that pass the test are taken out
+  abbrev pub passed : (A → Bool) → ℕ → List A → List A
+  passed f n [] = []
+  passed f zero (x ∷ xs) = x ∷ xs
+  passed f (suc n) (x ∷ xs) = cond (f x) (passed f n xs) (x ∷ passed f (suc n) xs)
+
 -- the number stands in the list
 abbrev pub elem : ℕ → List ℕ → Bool
 elem t [] = false

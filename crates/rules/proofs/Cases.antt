@@ -6,19 +6,19 @@ use Prim.Native.Nat.{ℕ, suc, _-_}
 use lib.ListN.{replicate}
 use lib.IntN.{ℤ, pos, negℤ}
 use Rattle.lists.specs.Lists.{everyBelow}
-use Rattle.rules.specs.declared.tables.State.{State}
-use Rattle.rules.specs.declared.tables.Thread.{Thread}
-use Rattle.rules.specs.declared.tables.LastAnswer.{LastAnswer}
-use Rattle.rules.specs.declared.tables.LastAnswer.the-variants.{NoneYet, Woken, TimedOut, Interrupted}
+use Rattle.tables.specs.declared.State.{State}
+use Rattle.tables.specs.declared.Thread.{Thread}
+use Rattle.tables.specs.declared.LastAnswer.{LastAnswer}
+use Rattle.tables.specs.declared.LastAnswer.the-variants.{NoneYet, Woken, TimedOut, Interrupted}
 use Rattle.rules.specs.declared.event.Event.{Event}
 use Rattle.rules.specs.declared.event.Event.the-variants.{Call, Store, Clock}
-use Rattle.rules.specs.Sizes.{memoryWords, threadsPerProcess, matchAny}
-use Rattle.rules.specs.Tables.{World, threadOf, arrivals, wordAt, queue, tablesOk, recordOk, fresh, change, endSleeps, moveSleeps, fallAsleep, writeWord}
+use Rattle.tables.specs.Sizes.{memoryWords, threadsPerProcess, matchAny}
+use Rattle.tables.specs.Tables.{expiredSleepers, World, threadOf, arrivals, wordAt, queue, tablesOk, recordOk, fresh, change, endSleeps, moveSleeps, fallAsleep, writeWord}
 use Rattle.rules.specs.Answers.{answerNumbers, lastNumber}
 use Rattle.rules.specs.Commands.{commandOf, notImplemented}
 use Rattle.rules.specs.WakeOp.{undefinedOp, operand, newWord, compares}
-use Rattle.rules.specs.Calls.{badArgument, badAddress, callRefusals, candidates, released, moved, releasedSecond, wait, wake, requeue, wakeOp, callEffect}
-use Rattle.rules.specs.Events.{refusals, expiredSleepers, clockEffect, interruptEffect, effect, step}
+use Rattle.rules.specs.Calls.{badArgument, badAddress, callRefusals, callRows, candidates, released, moved, releasedSecond, wait, wake, requeue, wakeOp, callEffect}
+use Rattle.rules.specs.Events.{refusals, clockEffect, interruptEffect, effect, step}
 use Rattle.rules.specs.History.{start, final}
 
 -- the words are of process 0, and most cases use the one at this address
@@ -159,5 +159,5 @@ given r =
     line (r .happens) (told (r .happens) w) (sleepers (v .state)) (endedFrom 0 (v .state .threads)) (wordAt v 0 address)
 
 pub as-document-01-says : map given twelve ≡ twelve
-unfolding step refusals effect callRefusals callEffect wait wake requeue wakeOp released moved releasedSecond candidates queue badArgument badAddress notImplemented commandOf undefinedOp operand newWord compares tablesOk recordOk fresh change endSleeps moveSleeps fallAsleep writeWord expiredSleepers clockEffect interruptEffect everyBelow
+unfolding step refusals effect callRefusals callRows callEffect wait wake requeue wakeOp released moved releasedSecond candidates queue badArgument badAddress notImplemented commandOf undefinedOp operand newWord compares tablesOk recordOk fresh change endSleeps moveSleeps fallAsleep writeWord expiredSleepers clockEffect interruptEffect everyBelow
 as-document-01-says = refl

@@ -10,14 +10,14 @@ use Rattle.lists.specs.Lists.{filter, all, elem, without}
 use Rattle.lists.proofs.Tests.{cases, and-left, and-right}
 use Rattle.lists.proofs.Filter.{filter-filter, all-filter, all-take, all-drop, all-filtered}
 use Rattle.lists.proofs.Occurs.{occurs, elem-occurs, occurs-filter-le, occurs-take-le, occurs-take-drop, occurs-without, occurs-taken-out}
-use Rattle.rules.specs.declared.tables.State.{State}
-use Rattle.rules.specs.declared.tables.Thread.{Thread}
+use Rattle.tables.specs.declared.State.{State}
+use Rattle.tables.specs.declared.Thread.{Thread}
 use Rattle.rules.specs.declared.event.Command.{Command}
 use Rattle.rules.specs.declared.event.Call.{Call}
-use Rattle.rules.specs.Tables.{World, threadOf, arrivals, processOf, sleepsAt, queue, wordAt}
+use Rattle.tables.specs.Tables.{World, threadOf, arrivals, processOf, sleepsAt, queue, wordAt}
 use Rattle.rules.specs.WakeOp.{compares}
 use Rattle.rules.specs.Calls.{matches, secondCap, candidates, released, moved, releasedSecond}
-use Rattle.rules.proofs.Sound.{Sound, once}
+use Rattle.tables.proofs.Sound.{Sound, once}
 
 -- the test that a candidate passes
 abbrev pub candidate : (Thread → Bool) → ℕ → ℕ → State → ℕ → Bool

@@ -11,23 +11,23 @@ use Rattle.lists.specs.Lists.{elem}
 use Rattle.lists.proofs.Tests.{cases, clash, by-cases}
 use Rattle.lists.proofs.Filter.{all-filter}
 use Rattle.lists.proofs.Occurs.{elem-all}
-use Rattle.rules.specs.declared.tables.LastAnswer.the-variants.{NoneYet}
+use Rattle.tables.specs.declared.LastAnswer.the-variants.{NoneYet}
 use Rattle.rules.specs.declared.event.Command.{Command}
 use Rattle.rules.specs.declared.event.Command.the-variants.{Wait, Wake, Requeue, CmpRequeue, WakeOp, WaitBitset, WakeBitset, Unknown}
 use Rattle.rules.specs.declared.event.Call.{Call}
 use Rattle.rules.specs.declared.event.Event.{Event}
 use Rattle.rules.specs.declared.event.Event.the-variants.{Call as CallEvent, Store, Clock, Interrupt, Query}
 use Rattle.rules.specs.declared.answer.Answer.the-variants.{Asleep, Count}
-use Rattle.rules.specs.Sizes.{threads}
-use Rattle.rules.specs.Tables.{World, threadNumber, running, threadOf, arrivals, fallAsleep, writeWord}
+use Rattle.tables.specs.Sizes.{threads}
+use Rattle.tables.specs.Tables.{expired, expiredSleepers, World, threadNumber, running, threadOf, arrivals, fallAsleep, writeWord}
 use Rattle.rules.specs.Answers.{Outcome}
 use Rattle.rules.specs.Commands.{commandOf, isUnknown}
 use Rattle.rules.specs.Calls.{caller, wait, wake, requeue, wakeOp, callEffect}
-use Rattle.rules.specs.Events.{refusals, effect, step, expired, expiredSleepers, clockEffect, interruptEffect}
+use Rattle.rules.specs.Events.{refusals, effect, step, clockEffect, interruptEffect}
 use Rattle.rules.specs.Claims.{wokenBy, movedBy, sleepsBy, Fate, stays, sleeps, wakes, moves, timesOut, isInterrupted}
 use Rattle.rules.proofs.Rows.{Clear, clear-pass, verdicts, step-refused, step-passed}
-use Rattle.rules.proofs.Changes.{change-other, change-named}
-use Rattle.rules.proofs.Sound.{tables-sound}
+use Rattle.tables.proofs.Changes.{change-other, change-named}
+use Rattle.tables.proofs.Sound.{tables-sound}
 use Rattle.rules.proofs.Passed.{clear-passed, caller-below, sound-of}
 use Rattle.rules.proofs.Sleeps.{asleep-sleeps, asleep-leaves}
 use Rattle.rules.proofs.Taken.{takes-first, took-expired, took-interrupted}

@@ -10,8 +10,8 @@ use Rattle.lists.proofs.Tests.{cases, clash}
 use Rattle.lists.proofs.Update.{update-alike}
 use Rattle.rules.specs.declared.event.Event.{Event}
 use Rattle.rules.specs.declared.event.Event.the-variants.{Call as CallEvent, Store, Clock, Interrupt, Query}
-use Rattle.rules.specs.Sizes.{wordsPerProcess, wordBytes, bytesPerProcess}
-use Rattle.rules.specs.Tables.{World, threadNumber, wordNumber, wordAt, threadOf, arrivals}
+use Rattle.tables.specs.Sizes.{wordsPerProcess, wordBytes, bytesPerProcess}
+use Rattle.tables.specs.Tables.{World, threadNumber, wordNumber, wordAt, threadOf, arrivals}
 use Rattle.rules.specs.Answers.{Outcome}
 use Rattle.rules.specs.Events.{step}
 use Rattle.rules.specs.History.{start, final, Named, process, nobody, named, isKept, isProcess, belongs, strike, answersTo}

@@ -1,7 +1,4 @@
 pub mod Rows
-pub mod Changes
-pub mod Sound
-pub mod Kept
 pub mod Passed
 pub mod Chosen
 pub mod Preserved

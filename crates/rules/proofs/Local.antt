@@ -5,14 +5,14 @@ use Prim.Native.Nat.{ℕ, _+_}
 use lib.ListN.{length, take, drop}
 use Rattle.lists.specs.Lists.{filter}
 use Rattle.lists.proofs.Occurs.{filter-agree}
-use Rattle.rules.specs.declared.tables.State.{State}
-use Rattle.rules.specs.declared.tables.Thread.{Thread}
+use Rattle.tables.specs.declared.State.{State}
+use Rattle.tables.specs.declared.Thread.{Thread}
 use Rattle.rules.specs.declared.event.Command.{Command}
 use Rattle.rules.specs.declared.event.Command.the-variants.{Wait, Wake, Requeue, CmpRequeue, WakeOp, WaitBitset, WakeBitset, Unknown}
 use Rattle.rules.specs.declared.event.Call.{Call}
 use Rattle.rules.specs.declared.event.Event.the-variants.{Call as CallEvent}
 use Rattle.rules.specs.declared.answer.Answer.the-variants.{Count}
-use Rattle.rules.specs.Tables.{World, threadOf, queue}
+use Rattle.tables.specs.Tables.{World, threadOf, queue}
 use Rattle.rules.specs.Answers.{Outcome}
 use Rattle.rules.specs.Commands.{commandOf, uses}
 use Rattle.rules.specs.Calls.{isWakeOp, matches, secondCap, candidates, released, moved, releasedSecond, wait, wake, requeue, wakeOp, callEffect}

@@ -12,21 +12,21 @@ use Rattle.lists.specs.Lists.{elem}
 use Rattle.lists.proofs.Tests.{cases, clash, by-cases, and-intro, and-left, and-right}
 use Rattle.lists.proofs.Filter.{filter-true}
 use Rattle.lists.proofs.Occurs.{elem-filter, elem-all, elem-append}
-use Rattle.rules.specs.declared.tables.Thread.{Thread}
-use Rattle.rules.specs.declared.tables.LastAnswer.the-variants.{Woken}
+use Rattle.tables.specs.declared.Thread.{Thread}
+use Rattle.tables.specs.declared.LastAnswer.the-variants.{Woken}
 use Rattle.rules.specs.declared.event.Command.{Command}
 use Rattle.rules.specs.declared.event.Command.the-variants.{Wake}
 use Rattle.rules.specs.declared.event.Call.{Call}
 use Rattle.rules.specs.declared.event.Event.{Event}
 use Rattle.rules.specs.declared.event.Event.the-variants.{Call as CallEvent}
 use Rattle.rules.specs.declared.answer.Answer.the-variants.{Count}
-use Rattle.rules.specs.Tables.{World, processOf, threadOf, arrivals, sleepsAt, queue}
+use Rattle.tables.specs.Tables.{World, processOf, threadOf, arrivals, sleepsAt, queue}
 use Rattle.rules.specs.Commands.{commandOf, uses}
 use Rattle.rules.specs.Calls.{matches, candidates, released, moved}
 use Rattle.rules.specs.Events.{refusals, step}
 use Rattle.rules.specs.History.{final}
 use Rattle.rules.specs.Claims.{Took, wokenBy, movedBy, Fate, stays, sleeps, wakes, moves, timesOut, isInterrupted, asleepThere, Enters, byWait, byRequeue, sleptThrough, Since}
-use Rattle.rules.proofs.Sound.{Sound, listed-waiting}
+use Rattle.tables.proofs.Sound.{Sound, listed-waiting}
 use Rattle.rules.proofs.Passed.{clear-passed}
 use Rattle.rules.proofs.Chosen.{candidate-own, moved-pass}
 use Rattle.rules.proofs.Taken.{takes-first, counted-clear}
@@ -40,8 +40,8 @@ module _ (t a : ℕ) where
   at-address r h = eqb-true (r .uaddr) a (and-right (r .waiting) (eqb (r .uaddr) a) h)
 
   requeued : (c : Call) (w : World) → elem t (movedBy (commandOf (c .op)) c w) ≡ true
-      → (uses (commandOf (c .op)) .move ≡ true) × (c .process ≡ processOf t) × (elem t (moved (commandOf (c .op)) c (w .state)) ≡ true)
-  requeued c w h = cases (uses k .move)
+      → (uses (commandOf (c .op)) .moves ≡ true) × (c .process ≡ processOf t) × (elem t (moved (commandOf (c .op)) c (w .state)) ≡ true)
+  requeued c w h = cases (uses k .moves)
       (λ m.
       let e : elem t (moved k c (w .state)) ≡ true = rw m at h in
       (m, sym (eqb-true (processOf t) (c .process) (candidate-own (matches k c) (c .process) (c .uaddr) (w .state) t (elem-all _ (moved k c (w .state)) (moved-pass k c (w .state)) t e))), e))

@@ -8,15 +8,15 @@ use borrow.Author.Tests.{eqb-true, ne-eqb}
 use Rattle.lists.specs.Lists.{filter, all}
 use Rattle.lists.proofs.Tests.{cases}
 use Rattle.lists.proofs.Filter.{filter-none, all-append}
-use Rattle.rules.specs.declared.tables.State.{State}
-use Rattle.rules.specs.declared.tables.LastAnswer.{LastAnswer}
-use Rattle.rules.specs.declared.tables.LastAnswer.the-variants.{Woken, Interrupted}
+use Rattle.tables.specs.declared.State.{State}
+use Rattle.tables.specs.declared.LastAnswer.{LastAnswer}
+use Rattle.tables.specs.declared.LastAnswer.the-variants.{Woken, Interrupted}
 use Rattle.rules.specs.declared.event.Command.{Command}
 use Rattle.rules.specs.declared.event.Command.the-variants.{Wait, Wake, Requeue, CmpRequeue, WakeOp, WaitBitset, WakeBitset, Unknown}
 use Rattle.rules.specs.declared.event.Call.{Call}
 use Rattle.rules.specs.declared.event.Event.{Event}
 use Rattle.rules.specs.declared.event.Event.the-variants.{Call as CallEvent, Store, Clock, Interrupt, Query}
-use Rattle.rules.specs.Tables.{World, threadNumber, processOf, threadOf, endSleeps, moveSleeps, withState}
+use Rattle.tables.specs.Tables.{World, threadNumber, processOf, threadOf, endSleeps, moveSleeps, withState}
 use Rattle.rules.specs.Commands.{commandOf, uses}
 use Rattle.rules.specs.Calls.{caller, released, moved, releasedSecond, wait, wake, requeue, wakeOp, callEffect}
 use Rattle.rules.specs.Events.{refusals, interruptEffect, effect, step}

@@ -9,9 +9,9 @@ use borrow.Author.Tests.{lt-leb}
 use Rattle.lists.specs.Lists.{filter, all}
 use Rattle.lists.proofs.Tests.{cases}
 use Rattle.lists.proofs.Filter.{filter-within, filter-all, filter-filter, all-weaken, all-append}
-use Rattle.rules.specs.declared.tables.State.{State}
-use Rattle.rules.specs.declared.tables.Thread.{Thread}
-use Rattle.rules.specs.declared.tables.LastAnswer.the-variants.{Woken, TimedOut, Interrupted}
+use Rattle.tables.specs.declared.State.{State}
+use Rattle.tables.specs.declared.Thread.{Thread}
+use Rattle.tables.specs.declared.LastAnswer.the-variants.{Woken, TimedOut, Interrupted}
 use Rattle.rules.specs.declared.event.Command.{Command}
 use Rattle.rules.specs.declared.event.Command.the-variants.{Wait, Wake, Requeue, CmpRequeue, WakeOp, WaitBitset, WakeBitset, Unknown}
 use Rattle.rules.specs.declared.event.Call.{Call}
@@ -19,15 +19,15 @@ use Rattle.rules.specs.declared.event.Event.{Event}
 use Rattle.rules.specs.declared.event.Event.the-variants.{Call as CallEvent, Store, Clock, Interrupt, Query}
 use Rattle.rules.specs.declared.answer.Answer.the-variants.{Refused, Waiting}
 use Rattle.rules.specs.declared.answer.Errno.{Errno}
-use Rattle.rules.specs.Sizes.{threads, threadsPerProcess}
-use Rattle.rules.specs.Tables.{World, threadNumber, threadOf, arrivals, wordAt, endSleeps, withClock, withState, tablesOk}
+use Rattle.tables.specs.Sizes.{threads, threadsPerProcess}
+use Rattle.tables.specs.Tables.{expired, expiredSleepers, World, threadNumber, threadOf, arrivals, wordAt, endSleeps, withClock, withState, tablesOk}
 use Rattle.rules.specs.Answers.{Outcome, outcome}
 use Rattle.rules.specs.Commands.{commandOf, uses}
 use Rattle.rules.specs.WakeOp.{newWord}
-use Rattle.rules.specs.Calls.{wrongMemory, noThread, caller, secondCap, matches, candidates, released, moved, releasedSecond, wait, wake, requeue, wakeOp, callEffect, callRefusals, full}
-use Rattle.rules.specs.Events.{refusals, expired, expiredSleepers, clockEffect, interruptEffect, bitsBelow, waitingSet, panel, effect, step}
+use Rattle.rules.specs.Calls.{wrongMemory, noThread, caller, secondCap, matches, candidates, released, moved, releasedSecond, wait, wake, requeue, wakeOp, callEffect, callRefusals, callRows, full}
+use Rattle.rules.specs.Events.{refusals, clockEffect, interruptEffect, bitsBelow, waitingSet, panel, effect, step}
 use Rattle.rules.proofs.Rows.{Same, Clear, same-first, clear-pass, verdicts, step-refused, step-passed}
-use Rattle.rules.proofs.Sound.{room}
+use Rattle.tables.proofs.Sound.{room}
 use Rattle.rules.proofs.Preserved.{Valid}
 use Rattle.rules.proofs.Passed.{Passed, clear-passed, caller-below, memory-right, sound-right, thread-process, thread-index, uaddr-inside, uaddr2-inside}
 use Rattle.rules.proofs.Chosen.{candidate, candidate-own, candidates-are, released-pass, moved-pass, second-pass, atFirst, atSecond}
@@ -168,7 +168,7 @@ module _ (p : ℕ) (w : World) (g : Valid w) where
   same-waiting i h = rw (view-state p w, view-own p (w .state) (threadNumber p i) (own-thread p i h))
 
 call-rows : (c : Call) (w : World) → Valid w → Same (callRefusals c w) (callRefusals c (view (c .process) w))
-unfolding callRefusals
+unfolding callRefusals callRows
 call-rows c w g =
     let p = c .process in
     let k = commandOf (c .op) in (
@@ -215,7 +215,7 @@ call-rows c w g =
     )
   where
     room-too : noThread (c .process) (c .index) ≡ false → threadOf (w .state) (caller c) .waiting ≡ false
-        → full w ≡ full (view (c .process) w)
+        → full (w .state .count) ≡ full (view (c .process) w .state .count)
     room-too h3 h4 =
         let p = c .process in
         let low = caller-below c (thread-process p (c .index) h3) (thread-index p (c .index) h3) in

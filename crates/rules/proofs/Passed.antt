@@ -9,13 +9,13 @@ use borrow.Author.Tests.{eqb-true, eq-eqb, leb-false, lt-leb, not-false}
 use Rattle.lists.proofs.Tests.{or-left, or-right, or-intro}
 use Rattle.rules.specs.declared.event.Command.{Command}
 use Rattle.rules.specs.declared.event.Call.{Call}
-use Rattle.rules.specs.Sizes.{processes, threadsPerProcess, threads, memoryWords, maxCap}
-use Rattle.rules.specs.Tables.{World, threadOf, aligned, tablesOk}
+use Rattle.tables.specs.Sizes.{processes, threadsPerProcess, threads, memoryWords, maxCap}
+use Rattle.tables.specs.Tables.{outside, World, threadOf, wordAt, aligned, tablesOk}
 use Rattle.rules.specs.Commands.{commandOf, notImplemented, isUnknown, bitSet, clockBit, uses}
 use Rattle.rules.specs.WakeOp.{undefinedOp}
-use Rattle.rules.specs.Calls.{wrongMemory, noProcess, noThread, caller, secondCap, badArgument, outside, badAddress, isWakeOp, differs, late, callRefusals}
+use Rattle.rules.specs.Calls.{wrongMemory, noProcess, noThread, caller, secondCap, badArgument, badAddress, isWakeOp, differs, late, callRefusals, callRows}
 use Rattle.rules.proofs.Rows.{Clear}
-use Rattle.rules.proofs.Sound.{Sound, tables-sound, sound-tables, room}
+use Rattle.tables.proofs.Sound.{Sound, tables-sound, sound-tables, room}
 
 pub record Passed (k : Command) (c : Call) (w : World) : Type 0 where
   pub memory : length (w .words) ≡ memoryWords
@@ -28,8 +28,8 @@ pub record Passed (k : Command) (c : Call) (w : World) : Type 0 where
   pub arguments : badArgument k c ≡ false
   pub addresses : badAddress k c ≡ false
   pub defined : (isWakeOp k && undefinedOp (c .val3)) ≡ false
-  pub equal : differs k c w ≡ false
-  pub ahead : late k c w ≡ false
+  pub equal : differs k c (wordAt w (c .process) (c .uaddr)) ≡ false
+  pub ahead : late k c (w .state .clock) ≡ false
 
 -- sound memory and tables, and a process and a thread that exist, as the first rows test them
 pub memory-is : (w : World) → wrongMemory w ≡ false → length (w .words) ≡ memoryWords
@@ -51,7 +51,7 @@ pub thread-index : (p i : ℕ) → noThread p i ≡ false → i < threadsPerProc
 thread-index p i h = leb-false threadsPerProcess i (or-right (noProcess p) (leb threadsPerProcess i) h)
 
 pub clear-passed : (c : Call) (w : World) → Clear (callRefusals c w) → Passed (commandOf (c .op)) c w
-unfolding callRefusals notImplemented
+unfolding callRefusals callRows notImplemented
 clear-passed c w h =
     let op = h .1 .1 .1 .1 .0 in
     record {
@@ -74,7 +74,7 @@ caller-below c p i = omega arith
 
 -- The last row, -12, adds nothing: the caller runs, so the list has room.
 pub passed-clear : (c : Call) (w : World) → Passed (commandOf (c .op)) c w → Clear (callRefusals c w)
-unfolding callRefusals notImplemented
+unfolding callRefusals callRows notImplemented
 passed-clear c w g = (
   memory-right w (g .memory),
   (
@@ -126,7 +126,7 @@ module _ (k : Command) (c : Call) (h : badArgument k c ≡ false) where
 
   seconds-right : seconds ≡ false
   unfolding badArgument
-  seconds-right = or-left seconds (uses k .move && eqb (c .uaddr) (c .uaddr2)) h
+  seconds-right = or-left seconds (uses k .moves && eqb (c .uaddr) (c .uaddr2)) h
 
   firsts-right : firsts ≡ false
   firsts-right = or-left firsts (uses k .second && not (aligned (c .uaddr2))) seconds-right
@@ -140,9 +140,9 @@ module _ (k : Command) (c : Call) (h : badArgument k c ≡ false) where
   pub mask-given : uses k .mask ≡ true → eqb (c .val3) 0 ≡ false
   mask-given e = rw e at (or-right caps (uses k .mask && eqb (c .val3) 0) (or-left masks (not (aligned (c .uaddr))) firsts-right))
 
-  pub addresses-apart : uses k .move ≡ true → eqb (c .uaddr) (c .uaddr2) ≡ false
+  pub addresses-apart : uses k .moves ≡ true → eqb (c .uaddr) (c .uaddr2) ≡ false
   unfolding badArgument
-  addresses-apart e = rw e at (or-right seconds (uses k .move && eqb (c .uaddr) (c .uaddr2)) h)
+  addresses-apart e = rw e at (or-right seconds (uses k .moves && eqb (c .uaddr) (c .uaddr2)) h)
 
 -- and the range of the addresses
 pub uaddr-inside : (k : Command) (c : Call) → badAddress k c ≡ false → outside (c .uaddr) ≡ false

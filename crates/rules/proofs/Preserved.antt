@@ -7,24 +7,24 @@ use lib.ListN.{length, length-set}
 use lib.Dec.{eqb, leb, ltb}
 use borrow.Author.Tests.{leb-false, lt-ltb}
 use Rattle.lists.proofs.Tests.{cases, and-intro}
-use Rattle.rules.specs.declared.tables.State.{State}
-use Rattle.rules.specs.declared.tables.LastAnswer.{LastAnswer}
-use Rattle.rules.specs.declared.tables.LastAnswer.the-variants.{Woken, Interrupted}
+use Rattle.tables.specs.declared.State.{State}
+use Rattle.tables.specs.declared.LastAnswer.{LastAnswer}
+use Rattle.tables.specs.declared.LastAnswer.the-variants.{Woken, Interrupted}
 use Rattle.rules.specs.declared.event.Command.{Command}
 use Rattle.rules.specs.declared.event.Command.the-variants.{Wait, Wake, Requeue, CmpRequeue, WakeOp, WaitBitset, WakeBitset, Unknown}
 use Rattle.rules.specs.declared.event.Call.{Call}
 use Rattle.rules.specs.declared.event.Event.{Event}
 use Rattle.rules.specs.declared.event.Event.the-variants.{Call as CallEvent, Store, Clock, Interrupt, Query}
-use Rattle.rules.specs.Sizes.{memoryWords}
-use Rattle.rules.specs.Tables.{World, threadNumber, threadOf, recordOk, asleepAt, endSleeps, writeWord}
+use Rattle.tables.specs.Sizes.{memoryWords}
+use Rattle.tables.specs.Tables.{World, threadNumber, threadOf, recordOk, asleepAt, endSleeps, writeWord}
 use Rattle.rules.specs.Commands.{commandOf, uses}
 use Rattle.rules.specs.Calls.{caller, timeoutGiven, deadlineOf, maskOf, released, moved, wait, wake, requeue, wakeOp, callEffect}
 use Rattle.rules.specs.Events.{refusals, clockEffect, interruptEffect, effect, step}
 use Rattle.rules.specs.History.{start, final}
 use Rattle.rules.proofs.Rows.{Clear, verdicts, step-refused, step-passed, clear-pass}
-use Rattle.rules.proofs.Changes.{arrivals-end}
-use Rattle.rules.proofs.Sound.{Sound, fresh-sound}
-use Rattle.rules.proofs.Kept.{below-ok, sound-end, sound-move, sound-sleep, sound-clock}
+use Rattle.tables.proofs.Changes.{arrivals-end}
+use Rattle.tables.proofs.Sound.{Sound, fresh-sound}
+use Rattle.tables.proofs.Kept.{below-ok, sound-end, sound-move, sound-sleep, sound-clock}
 use Rattle.rules.proofs.Chosen.{moved-left}
 use Rattle.rules.proofs.Passed.{Passed, clear-passed, caller-below, uaddr-aligned, uaddr2-aligned, mask-given, uaddr-inside, uaddr2-inside}
 

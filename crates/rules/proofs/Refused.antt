@@ -11,7 +11,7 @@ use Rattle.rules.specs.declared.answer.Errno.{Errno}
 use Rattle.rules.specs.declared.answer.Verdict.the-variants.{Refuse}
 use Rattle.rules.specs.declared.answer.Answer.{Answer}
 use Rattle.rules.specs.declared.answer.Answer.the-variants.{Asleep, Count, Refused, Waiting}
-use Rattle.rules.specs.Tables.{World, threadNumber, threadOf}
+use Rattle.tables.specs.Tables.{World, threadNumber, threadOf}
 use Rattle.rules.specs.Answers.{first}
 use Rattle.rules.specs.Commands.{commandOf, isUnknown}
 use Rattle.rules.specs.Calls.{wait, wake, requeue, wakeOp, callEffect}

@@ -10,7 +10,7 @@ use Rattle.rules.specs.declared.answer.Verdict.{Verdict}
 use Rattle.rules.specs.declared.answer.Verdict.the-variants.{Refuse, Pass}
 use Rattle.rules.specs.declared.answer.Answer.the-variants.{Refused}
 use Rattle.rules.specs.declared.event.Event.{Event}
-use Rattle.rules.specs.Tables.{World}
+use Rattle.tables.specs.Tables.{World}
 use Rattle.rules.specs.Answers.{Row, first, outcome, judged}
 use Rattle.rules.specs.Events.{refusals, effect, step}
 use Rattle.rules.specs.Claims.{FirstOf, here, later}

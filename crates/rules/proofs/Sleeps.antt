@@ -11,15 +11,15 @@ use Rattle.rules.specs.declared.event.Command.the-variants.{Wait, Wake, 
 use Rattle.rules.specs.declared.event.Call.{Call}
 use Rattle.rules.specs.declared.event.Event.the-variants.{Call as CallEvent}
 use Rattle.rules.specs.declared.answer.Answer.the-variants.{Asleep}
-use Rattle.rules.specs.Sizes.{wordBytes, bytesPerProcess}
-use Rattle.rules.specs.Tables.{World, wordAt, withState, fallAsleep}
+use Rattle.tables.specs.Sizes.{wordBytes, bytesPerProcess}
+use Rattle.tables.specs.Tables.{World, wordAt, withState, fallAsleep}
 use Rattle.rules.specs.Commands.{commandOf, isUnknown, bitSet, clockBit, uses}
 use Rattle.rules.specs.WakeOp.{undefinedOp}
 use Rattle.rules.specs.Calls.{caller, timeoutGiven, deadlineOf, badArgument, badAddress, isWakeOp, differs, late, wait, wake, requeue, wakeOp, callEffect}
 use Rattle.rules.specs.Events.{refusals, effect, step}
 use Rattle.rules.specs.Claims.{IsWait, Sleeps, sleepsBy}
 use Rattle.rules.proofs.Rows.{clear-pass, verdicts, step-refused, step-passed}
-use Rattle.rules.proofs.Sound.{tables-sound, sound-tables}
+use Rattle.tables.proofs.Sound.{tables-sound, sound-tables}
 use Rattle.rules.proofs.Passed.{Passed, clear-passed, passed-clear, uaddr-aligned, mask-given, uaddr-inside}
 
 -- the answers of the commands
@@ -53,16 +53,16 @@ module _ (k : Command) (c : Call) (w : World) (i : IsWait k) where
   abbrev due : ℕ
   due = deadlineOf k c (w .state .clock)
 
-  equal-of : differs k c w ≡ false → wordAt w (c .process) (c .uaddr) ≡ c .val
+  equal-of : differs k c (wordAt w (c .process) (c .uaddr)) ≡ false → wordAt w (c .process) (c .uaddr) ≡ c .val
   equal-of h = eqb-true _ _ (not-false (eqb (wordAt w (c .process) (c .uaddr)) (c .val)) (rw (wait-compare k i, wait-deadline k i) at h))
 
-  of-equal : wordAt w (c .process) (c .uaddr) ≡ c .val → differs k c w ≡ false
+  of-equal : wordAt w (c .process) (c .uaddr) ≡ c .val → differs k c (wordAt w (c .process) (c .uaddr)) ≡ false
   of-equal h = rw (wait-compare k i, wait-deadline k i, eq-eqb (wordAt w (c .process) (c .uaddr)) (c .val) h)
 
-  ahead-of : late k c w ≡ false → timeoutGiven c ≡ true → w .state .clock < due
+  ahead-of : late k c (w .state .clock) ≡ false → timeoutGiven c ≡ true → w .state .clock < due
   ahead-of h g = leb-false due (w .state .clock) (rw (wait-deadline k i, g) at h)
 
-  of-ahead : (timeoutGiven c ≡ true → w .state .clock < due) → late k c w ≡ false
+  of-ahead : (timeoutGiven c ≡ true → w .state .clock < due) → late k c (w .state .clock) ≡ false
   of-ahead h = cases (timeoutGiven c)
       (λ g. rw (wait-deadline k i, g, lt-leb due (w .state .clock) (h g)))
       (λ g. rw (wait-deadline k i, g))

@@ -10,24 +10,24 @@ use borrow.Author.Tests.{eqb-true}
 use Rattle.lists.specs.Lists.{elem, bit, countBelow}
 use Rattle.lists.proofs.Tests.{cases, clash, never}
 use Rattle.lists.proofs.Occurs.{occurs, bit-true, elem-occurs, absent-occurs, occurs-absent, occurs-append, occurs-without, occurs-taken-out, occurs-filter-le, elem-all}
-use Rattle.rules.specs.declared.tables.State.{State}
-use Rattle.rules.specs.declared.tables.LastAnswer.{LastAnswer}
-use Rattle.rules.specs.declared.tables.LastAnswer.the-variants.{Woken, TimedOut, Interrupted}
+use Rattle.tables.specs.declared.State.{State}
+use Rattle.tables.specs.declared.LastAnswer.{LastAnswer}
+use Rattle.tables.specs.declared.LastAnswer.the-variants.{Woken, TimedOut, Interrupted}
 use Rattle.rules.specs.declared.event.Command.{Command}
 use Rattle.rules.specs.declared.event.Command.the-variants.{Wait, Wake, Requeue, CmpRequeue, WakeOp, WaitBitset, WakeBitset, Unknown}
 use Rattle.rules.specs.declared.event.Call.{Call}
 use Rattle.rules.specs.declared.event.Event.{Event}
 use Rattle.rules.specs.declared.event.Event.the-variants.{Call as CallEvent, Store, Clock, Interrupt, Query}
 use Rattle.rules.specs.declared.answer.Answer.the-variants.{Count}
-use Rattle.rules.specs.Sizes.{threads}
-use Rattle.rules.specs.Tables.{World, threadNumber, threadOf, arrivals, endSleeps, moveSleeps, writeWord, withClock}
+use Rattle.tables.specs.Sizes.{threads}
+use Rattle.tables.specs.Tables.{expired, expiredSleepers, World, threadNumber, threadOf, arrivals, endSleeps, moveSleeps, writeWord, withClock}
 use Rattle.rules.specs.Answers.{Outcome}
 use Rattle.rules.specs.Commands.{commandOf, uses}
 use Rattle.rules.specs.Calls.{matches, released, moved, releasedSecond, wait, wake, requeue, wakeOp, callEffect}
-use Rattle.rules.specs.Events.{refusals, effect, step, expired, expiredSleepers, clockEffect, interruptEffect}
+use Rattle.rules.specs.Events.{refusals, effect, step, clockEffect, interruptEffect}
 use Rattle.rules.specs.Claims.{Took, Takes, woke, shifted, wokenCount, shiftedCount, countsMoves}
 use Rattle.rules.proofs.Rows.{Clear, clear-pass, verdicts, step-refused, step-passed}
-use Rattle.rules.proofs.Sound.{Sound, waiting-below, once}
+use Rattle.tables.proofs.Sound.{Sound, waiting-below, once}
 use Rattle.rules.proofs.Passed.{Passed, clear-passed, sound-of, addresses-apart}
 use Rattle.rules.proofs.Chosen.{candidate-at, moved-pass, atFirst, parts-listed, second-listed}
 use Rattle.rules.proofs.Took.{took-none, took-end, took-move, took-clock, count-woke, count-shifted}
@@ -154,7 +154,7 @@ module _ (k : Command) (c : Call) (w : World) (g : Sound (w .state)) where
       ∙ count-woke Woken (released k c (w .state) ++ releasedSecond k c w) [] (c .uaddr2) (w .state) v g took (λ t. omega (arith, both-listed k c w g t)) (λ t e. clash false e refl)
 
 call-counted : (k : Command) (c : Call) (w : World) (n : ℕ) → Passed k c w → callEffect k c w .answer ≡ Count n
-    → n ≡ wokenCount w (callEffect k c w .world) + cond (uses k .move && uses k .compare) (shiftedCount w (callEffect k c w .world)) 0
+    → n ≡ wokenCount w (callEffect k c w .world) + cond (uses k .moves && uses k .compare) (shiftedCount w (callEffect k c w .world)) 0
 unfolding callEffect wait wake requeue wakeOp writeWord
 call-counted Wait c w n g h = never (cc)
 call-counted WaitBitset c w n g h = never (cc)

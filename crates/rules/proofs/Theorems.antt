@@ -8,7 +8,7 @@ use Prim.Native.Nat.{ℕ, _+_, _≤_, _<_}
 use lib.ListN.{length, take, drop}
 use Rattle.lists.specs.Lists.{filter}
 use Rattle.lists.proofs.Tests.{by-cases, clash}
-use Rattle.rules.specs.declared.tables.State.{State}
+use Rattle.tables.specs.declared.State.{State}
 use Rattle.rules.specs.declared.event.Command.{Command}
 use Rattle.rules.specs.declared.event.Command.the-variants.{Wake}
 use Rattle.rules.specs.declared.event.Call.{Call}
@@ -17,8 +17,8 @@ use Rattle.rules.specs.declared.event.Event.the-variants.{Call as CallEv
 use Rattle.rules.specs.declared.answer.Errno.{Errno}
 use Rattle.rules.specs.declared.answer.Answer.{Answer}
 use Rattle.rules.specs.declared.answer.Answer.the-variants.{Asleep, Count, Refused}
-use Rattle.rules.specs.Sizes.{bytesPerProcess, memoryWords}
-use Rattle.rules.specs.Tables.{World, processOf, wordAt, threadOf, queue, tablesOk, withState, fallAsleep}
+use Rattle.tables.specs.Sizes.{bytesPerProcess, memoryWords}
+use Rattle.tables.specs.Tables.{World, processOf, wordAt, threadOf, queue, tablesOk, withState, fallAsleep}
 use Rattle.rules.specs.Commands.{commandOf}
 use Rattle.rules.specs.Calls.{caller, secondCap, matches, candidates, released, moved}
 use Rattle.rules.specs.Events.{refusals, step}
@@ -26,7 +26,7 @@ use Rattle.rules.specs.History.{start, final, strike, answersTo}
 use Rattle.rules.specs.Claims.{FirstOf, Sleeps, sleepsBy, Takes, wokenCount, shiftedCount, countsMoves, NamedAlike, Fate, asleepThere, sleptThrough, Since, Alike}
 use Rattle.rules.proofs.Rows.{first-of, of-first, step-refused}
 use Rattle.rules.proofs.Cases.{twelve, given, as-document-01-says}
-use Rattle.rules.proofs.Sound.{tables-sound, sound-tables}
+use Rattle.tables.proofs.Sound.{tables-sound, sound-tables}
 use Rattle.rules.proofs.Refused.{refused-row}
 use Rattle.rules.proofs.Preserved.{step-valid, final-valid, start-valid}
 use Rattle.rules.proofs.Sleeps as Sleeps′

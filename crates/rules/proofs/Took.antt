@@ -11,14 +11,14 @@ use Rattle.lists.proofs.Tests.{cases, clash}
 use Rattle.lists.proofs.Filter.{filter-true}
 use Rattle.lists.proofs.Occurs.{occurs, bit-true, eqb-refl, elem-occurs}
 use Rattle.lists.proofs.Count.{length-count, countBelow-ext}
-use Rattle.rules.specs.declared.tables.State.{State}
-use Rattle.rules.specs.declared.tables.LastAnswer.{LastAnswer}
-use Rattle.rules.specs.declared.tables.LastAnswer.the-variants.{NoneYet}
-use Rattle.rules.specs.Sizes.{threads}
-use Rattle.rules.specs.Tables.{running, threadOf, arrivals, ended, movedTo, withClock, endSleeps, moveSleeps}
+use Rattle.tables.specs.declared.State.{State}
+use Rattle.tables.specs.declared.LastAnswer.{LastAnswer}
+use Rattle.tables.specs.declared.LastAnswer.the-variants.{NoneYet}
+use Rattle.tables.specs.Sizes.{threads}
+use Rattle.tables.specs.Tables.{running, threadOf, arrivals, ended, movedTo, withClock, endSleeps, moveSleeps}
 use Rattle.rules.specs.Claims.{Took, woke, shifted}
-use Rattle.rules.proofs.Changes.{length-change, change-other, change-named, arrivals-end, arrivals-move}
-use Rattle.rules.proofs.Sound.{Sound, once, none-above}
+use Rattle.tables.proofs.Changes.{length-change, change-other, change-named, arrivals-end, arrivals-move}
+use Rattle.tables.proofs.Sound.{Sound, once, none-above}
 
 absent {ℓ} : {P : Type ℓ} → false ≡ true → P
 absent e = clash false e refl

@@ -12,15 +12,14 @@ use Rattle.lists.proofs.Tests.{cases}
 use Rattle.lists.proofs.Filter.{filter-append, filter-true}
 use Rattle.lists.proofs.Update.{length-update, getD-update-fixed, update-comm, update-set, update-set-forgotten}
 use Rattle.lists.proofs.Occurs.{occurs, occurs-filter, occurs-filtered-out, elem-filter, elem-filtered-out, without-filter}
-use Rattle.rules.specs.declared.tables.State.{State}
-use Rattle.rules.specs.declared.tables.Thread.{Thread}
-use Rattle.rules.specs.declared.tables.LastAnswer.{LastAnswer}
-use Rattle.rules.specs.declared.tables.LastAnswer.the-variants.{NoneYet}
-use Rattle.rules.specs.Sizes.{threadsPerProcess, wordsPerProcess, bytesPerProcess, threads, noEntry}
-use Rattle.rules.specs.Tables.{World, threadNumber, processOf, wordNumber, wordAt, running, threadOf, arrivals, change, ended, movedTo, withArrivals, withThreads, withClock, endSleeps, moveSleeps, fallAsleep, writeWord}
-use Rattle.rules.specs.Calls.{outside}
-use Rattle.rules.proofs.Changes.{arrivals-with, change-none}
-use Rattle.rules.proofs.Sound.{Sound, running-ok}
+use Rattle.tables.specs.declared.State.{State}
+use Rattle.tables.specs.declared.Thread.{Thread}
+use Rattle.tables.specs.declared.LastAnswer.{LastAnswer}
+use Rattle.tables.specs.declared.LastAnswer.the-variants.{NoneYet}
+use Rattle.tables.specs.Sizes.{threadsPerProcess, wordsPerProcess, bytesPerProcess, threads, noEntry}
+use Rattle.tables.specs.Tables.{outside, World, threadNumber, processOf, wordNumber, wordAt, running, threadOf, arrivals, change, ended, movedTo, withArrivals, withThreads, withClock, endSleeps, moveSleeps, fallAsleep, writeWord}
+use Rattle.tables.proofs.Changes.{arrivals-with, change-none}
+use Rattle.tables.proofs.Sound.{Sound, running-ok}
 use Rattle.rules.proofs.Preserved.{Valid}
 
 -- thread t, and word number i, are process p's

@@ -4,18 +4,17 @@ use mathlib.Core.List.{List, [], _∷_, _++_}
 use Prim.Native.Nat.{ℕ, _+_, _-_, _%_, min}
 use lib.ListN.{length, take, drop}
 use lib.Dec.{eqb, leb, ltb}
-use lib.Bits.{bitAnd}
 use Rattle.lists.specs.Lists.{filter, without}
-use Rattle.rules.specs.declared.tables.State.{State}
-use Rattle.rules.specs.declared.tables.Thread.{Thread}
-use Rattle.rules.specs.declared.tables.LastAnswer.the-variants.{Woken}
+use Rattle.tables.specs.declared.State.{State}
+use Rattle.tables.specs.declared.Thread.{Thread}
+use Rattle.tables.specs.declared.LastAnswer.the-variants.{Woken}
 use Rattle.rules.specs.declared.event.Command.{Command}
 use Rattle.rules.specs.declared.event.Command.the-variants.{Wait, Wake, Requeue, CmpRequeue, WakeOp, WaitBitset, WakeBitset, Unknown}
 use Rattle.rules.specs.declared.event.Call.{Call}
 use Rattle.rules.specs.declared.answer.Errno.the-variants.{ENXIO, EBADF, ESRCH, EBUSY, ENOSYS, EINVAL, EFAULT, EAGAIN, ETIMEDOUT, ENOMEM}
 use Rattle.rules.specs.declared.answer.Answer.the-variants.{Asleep, Count, Refused}
-use Rattle.rules.specs.Sizes.{processes, threadsPerProcess, threads, bytesPerProcess, memoryWords, wordLimit, timeLimit, matchAny, maxCap}
-use Rattle.rules.specs.Tables.{World, threadNumber, threadOf, wordAt, queue, aligned, tablesOk, endSleeps, moveSleeps, fallAsleep, asleepAt, writeWord, withState}
+use Rattle.tables.specs.Sizes.{processes, threadsPerProcess, threads, memoryWords, wordLimit, timeLimit, matchAny, maxCap}
+use Rattle.tables.specs.Tables.{World, sharesBit, threadNumber, threadOf, wordAt, queue, aligned, outside, tablesOk, endSleeps, moveSleeps, fallAsleep, asleepAt, writeWord, withState}
 use Rattle.rules.specs.Answers.{Row, _when_, Outcome, outcome}
 use Rattle.rules.specs.Commands.{commandOf, notImplemented, uses}
 use Rattle.rules.specs.WakeOp.{undefinedOp, newWord, compares}
@@ -51,26 +50,23 @@ badArgument k c =
     || uses k .mask && eqb (c .val3) 0
     || not (aligned (c .uaddr))
     || uses k .second && not (aligned (c .uaddr2))
-    || uses k .move && eqb (c .uaddr) (c .uaddr2)
+    || uses k .moves && eqb (c .uaddr) (c .uaddr2)
 
 -- "an address in use is 4096 or more"
-abbrev pub outside : ℕ → Bool
-outside a = leb bytesPerProcess a
-
 unfoldable pub badAddress : Command → Call → Bool
 badAddress k c = outside (c .uaddr) || uses k .second && outside (c .uaddr2)
 
 -- "WAKE_OP with an undefined operation or comparison"
 abbrev pub isWakeOp : Command → Bool
-isWakeOp k = uses k .second && not (uses k .move)
+isWakeOp k = uses k .second && not (uses k .moves)
 
 -- "Word at uaddr must equal val", of a CMP_REQUEUE "must equal val3"
 abbrev pub expected : Command → Call → ℕ
 expected k c = cond (uses k .deadline) (c .val) (c .val3)
 
 -- "a compared word differs"
-abbrev pub differs : Command → Call → World → Bool
-differs k c w = uses k .compare && not (eqb (wordAt w (c .process) (c .uaddr)) (expected k c))
+abbrev pub differs : Command → Call → ℕ → Bool
+differs k c word = uses k .compare && not (eqb word (expected k c))
 
 -- "Outside the log a flag above 1 counts as 1."
 abbrev pub timeoutGiven : Call → Bool
@@ -81,36 +77,39 @@ abbrev pub deadlineOf : Command → Call → ℕ → ℕ
 deadlineOf k c now = cond (uses k .mask) (c .timeout) (min (now + c .timeout) (timeLimit - 1))
 
 -- "a wait's deadline is at or before the clock"
-abbrev pub late : Command → Call → World → Bool
-late k c w = uses k .deadline && timeoutGiven c && leb (deadlineOf k c (w .state .clock)) (w .state .clock)
+abbrev pub late : Command → Call → ℕ → Bool
+late k c now = uses k .deadline && timeoutGiven c && leb (deadlineOf k c now) now
 
 -- "the arrival list already holds 64"
-abbrev pub full : World → Bool
-full w = leb threads (w .state .count)
+abbrev pub full : ℕ → Bool
+full count = leb threads count
 
--- The table of answers.
-unfoldable pub callRefusals : Call → World → List Row
-callRefusals c w =
+-- The table of answers from its third row on, by what a call reads of the tables and words: whether the caller waits, the clock, the
+-- list's count and the word at uaddr.
+unfoldable pub callRows : Call → Bool → ℕ → ℕ → ℕ → List Row
+callRows c waits now count word =
     let k = commandOf (c .op) in
-    ENXIO when wrongMemory w
-    ∷ EBADF when brokenTables w
-    ∷ ESRCH when noThread (c .process) (c .index)
-    ∷ EBUSY when (threadOf (w .state) (caller c) .waiting)
+    ESRCH when noThread (c .process) (c .index)
+    ∷ EBUSY when waits
     ∷ ENOSYS when notImplemented (c .op)
     ∷ EINVAL when badArgument k c
     ∷ EFAULT when badAddress k c
     ∷ ENOSYS when (isWakeOp k && undefinedOp (c .val3))
-    ∷ EAGAIN when differs k c w
-    ∷ ETIMEDOUT when late k c w
-    ∷ ENOMEM when full w
+    ∷ EAGAIN when differs k c word
+    ∷ ETIMEDOUT when late k c now
+    ∷ ENOMEM when full count
     ∷ []
+
+-- The table of answers.
+unfoldable pub callRefusals : Call → World → List Row
+callRefusals c w =
+    ENXIO when wrongMemory w
+    ∷ EBADF when brokenTables w
+    ∷ callRows c (threadOf (w .state) (caller c) .waiting) (w .state .clock) (w .state .count) (wordAt w (c .process) (c .uaddr))
 
 -- "Mask is all ones", of a WAIT_BITSET "mask val3"
 abbrev pub maskOf : Command → Call → ℕ
 maskOf k c = cond (uses k .mask) (c .val3) matchAny
-
-abbrev pub sharesBit : ℕ → Thread → Bool
-sharesBit m r = not (eqb (bitAnd (r .bitset) m) 0)
 
 -- whom a wake may take: "for 10 only those whose mask shares a bit with val3, the others are passed over"
 abbrev pub matches : Command → Call → Thread → Bool

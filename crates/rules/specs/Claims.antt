@@ -7,23 +7,23 @@ use Prim.Native.Nat.{ℕ, _%_, _<_}
 use lib.ListN.{length, set}
 use lib.Dec.{eqb}
 use Rattle.lists.specs.Lists.{filter, elem, without, countBelow}
-use Rattle.rules.specs.declared.tables.State.{State}
-use Rattle.rules.specs.declared.tables.Thread.{Thread}
-use Rattle.rules.specs.declared.tables.LastAnswer.{LastAnswer}
-use Rattle.rules.specs.declared.tables.LastAnswer.the-variants.{Woken, TimedOut, Interrupted}
+use Rattle.tables.specs.declared.State.{State}
+use Rattle.tables.specs.declared.Thread.{Thread}
+use Rattle.tables.specs.declared.LastAnswer.{LastAnswer}
+use Rattle.tables.specs.declared.LastAnswer.the-variants.{Woken, TimedOut, Interrupted}
 use Rattle.rules.specs.declared.event.Command.{Command}
 use Rattle.rules.specs.declared.event.Command.the-variants.{Wait, WaitBitset}
 use Rattle.rules.specs.declared.event.Call.{Call}
 use Rattle.rules.specs.declared.event.Event.{Event}
 use Rattle.rules.specs.declared.event.Event.the-variants.{Call as CallEvent, Store, Clock, Interrupt, Query}
 use Rattle.rules.specs.declared.answer.Errno.{Errno}
-use Rattle.rules.specs.Sizes.{processes, threadsPerProcess, threads, wordBytes, bytesPerProcess, memoryWords}
-use Rattle.rules.specs.Tables.{World, threadNumber, processOf, wordNumber, wordAt, running, threadOf, arrivals, queue, tablesOk, movedTo, asleepAt}
+use Rattle.tables.specs.Sizes.{processes, threadsPerProcess, threads, wordBytes, bytesPerProcess, memoryWords}
+use Rattle.tables.specs.Tables.{expired, World, threadNumber, processOf, wordNumber, wordAt, running, threadOf, arrivals, queue, tablesOk, movedTo, asleepAt}
 use Rattle.rules.specs.Answers.{Row}
 use Rattle.rules.specs.Commands.{commandOf, bitSet, clockBit, uses}
 use Rattle.rules.specs.WakeOp.{newWord}
 use Rattle.rules.specs.Calls.{isWakeOp, caller, timeoutGiven, deadlineOf, maskOf, released, moved, releasedSecond}
-use Rattle.rules.specs.Events.{step, expired}
+use Rattle.rules.specs.Events.{step}
 use Rattle.rules.specs.History.{final}
 
 -- Refusals: x is the error of the first row that applies.
@@ -62,7 +62,7 @@ abbrev pub wokenBy : Command → Call → World → List ℕ
 wokenBy k c w = released k c (w .state) ++ cond (isWakeOp k) (releasedSecond k c w) []
 
 abbrev pub movedBy : Command → Call → World → List ℕ
-movedBy k c w = cond (uses k .move) (moved k c (w .state)) []
+movedBy k c w = cond (uses k .moves) (moved k c (w .state)) []
 
 -- From s to u, the threads `out` ran with the answer a, the threads `on` went to the target and to the list's end, and every other
 -- record and the order of every other entry are as they were.
@@ -97,7 +97,7 @@ shiftedCount w v = countBelow threads (shifted (w .state) (v .state))
 
 -- "where moves count": CMP_REQUEUE
 abbrev pub countsMoves : Event → Bool
-countsMoves (CallEvent c) = uses (commandOf (c .op)) .move && uses (commandOf (c .op)) .compare
+countsMoves (CallEvent c) = uses (commandOf (c .op)) .moves && uses (commandOf (c .op)) .compare
 countsMoves (Store p a v) = false
 countsMoves (Clock now) = false
 countsMoves (Interrupt p i) = false
@@ -143,7 +143,7 @@ asleepThere t a w = threadOf (w .state) t .waiting && eqb (threadOf (w .state) t
 -- requeue to that address, by a thread of its process.
 pub data Enters (t a : ℕ) (e : Event) (w : World) : Type 0 where
   byWait : (c : Call) → e ≡ CallEvent c → t ≡ caller c → c .uaddr ≡ a → Sleeps c w → Enters t a e w
-  byRequeue : (c : Call) → e ≡ CallEvent c → uses (commandOf (c .op)) .move ≡ true → c .process ≡ processOf t → c .uaddr2 ≡ a
+  byRequeue : (c : Call) → e ≡ CallEvent c → uses (commandOf (c .op)) .moves ≡ true → c .process ≡ processOf t → c .uaddr2 ≡ a
       → elem t (moved (commandOf (c .op)) c (w .state)) ≡ true → Enters t a e w
 
 -- asleep there before and after each event of the history

@@ -3,6 +3,7 @@ use mathlib.Core.Bool.{Bool, true, false, cond, _||_}
 use Prim.Native.Nat.{ℕ, _*_, _-_, _/_, _%_}
 use lib.Dec.{eqb}
 use Rattle.rules.specs.declared.event.Command.{Command}
+use Rattle.rules.specs.declared.event.Uses.{Uses}
 use Rattle.rules.specs.declared.event.Command.the-variants.{Wait, Wake, Requeue, CmpRequeue, WakeOp, WaitBitset, WakeBitset, Unknown}
 
 -- "The op is a command number plus option bits 128 (private, no effect here) and 256 (public header linux/futex.h)"
@@ -48,22 +49,8 @@ unfoldable pub notImplemented : ℕ → Bool
 notImplemented op = isUnknown (commandOf op) || eqb (bitSet op clockBit) 1
 
 -- "Arguments that a command doesn't use are ignored, as in source document 004." uaddr is used by all.
-pub record Uses : Type 0 where
-  -- val as a wake cap
-  pub cap : Bool
-  -- uaddr2, and timeout as the second cap
-  pub second : Bool
-  -- val3 as a mask
-  pub mask : Bool
-  -- the word at uaddr compared with a number
-  pub compare : Bool
-  -- flag and timeout as a deadline: the command sleeps
-  pub deadline : Bool
-  -- sleepers move from uaddr to uaddr2
-  pub move : Bool
-
 abbrev usesRow : Bool → Bool → Bool → Bool → Bool → Bool → Uses
-usesRow a b c d e f = record { cap = a; second = b; mask = c; compare = d; deadline = e; move = f }
+usesRow a b c d e f = record { cap = a; second = b; mask = c; compare = d; deadline = e; moves = f }
 
 -- a row for each command: cap, second, mask, compare, deadline, move
 abbrev pub uses : Command → Uses

@@ -1,24 +1,23 @@
 -- "Other events", and what any event is answered and leaves.
-use mathlib.Core.Bool.{Bool, not, cond, _&&_, _||_}
+use mathlib.Core.Bool.{Bool, not, cond, _||_}
 use mathlib.Core.List.{List, [], _∷_}
 use Prim.Native.Nat.{ℕ, suc, zero, _+_, _*_, _^_}
 use lib.ListN.{length}
-use lib.Dec.{leb, ltb}
+use lib.Dec.{ltb}
 use lib.Count.{ones, trailingZeros}
-use Rattle.lists.specs.Lists.{filter, bit}
-use Rattle.rules.specs.declared.tables.State.{State}
-use Rattle.rules.specs.declared.tables.Thread.{Thread}
-use Rattle.rules.specs.declared.tables.LastAnswer.the-variants.{TimedOut, Interrupted}
+use Rattle.lists.specs.Lists.{bit}
+use Rattle.tables.specs.declared.State.{State}
+use Rattle.tables.specs.declared.LastAnswer.the-variants.{TimedOut, Interrupted}
 use Rattle.rules.specs.declared.event.Event.{Event}
 use Rattle.rules.specs.declared.event.Event.the-variants.{Call, Store, Clock, Interrupt, Query}
 use Rattle.rules.specs.declared.answer.Errno.the-variants.{ENXIO, EBADF, ESRCH, EINVAL, EFAULT}
 use Rattle.rules.specs.declared.answer.Panel.{Panel}
 use Rattle.rules.specs.declared.answer.Answer.the-variants.{Count, Waiting}
-use Rattle.rules.specs.Sizes.{threadsPerProcess}
-use Rattle.rules.specs.Tables.{World, threadNumber, threadOf, arrivals, aligned, tablesOk, endSleeps, writeWord, withClock, withState}
+use Rattle.tables.specs.Sizes.{threadsPerProcess}
+use Rattle.tables.specs.Tables.{outside, World, expiredSleepers, threadNumber, threadOf, aligned, tablesOk, endSleeps, writeWord, withClock, withState}
 use Rattle.rules.specs.Answers.{Row, _when_, first, Outcome, outcome, judged}
 use Rattle.rules.specs.Commands.{commandOf}
-use Rattle.rules.specs.Calls.{wrongMemory, brokenTables, noProcess, noThread, outside, callRefusals, callEffect}
+use Rattle.rules.specs.Calls.{wrongMemory, brokenTables, noProcess, noThread, callRefusals, callEffect}
 
 -- What each event may be refused with, in order.
 unfoldable pub refusals : Event → World → List Row
@@ -39,14 +38,6 @@ refusals (Interrupt p i) w =
     ENXIO when wrongMemory w ∷ EBADF when brokenTables w ∷ ESRCH when noThread p i ∷ []
 -- it is always answered
 refusals (Query p) w = []
-
--- a sleeper "whose deadline is at or below it"
-abbrev pub expired : ℕ → Thread → Bool
-expired now r = r .waiting && r .timed && leb (r .deadline) now
-
--- "every sleeper whose deadline is at or below it ends with -110"
-unfoldable pub expiredSleepers : ℕ → State → List ℕ
-expiredSleepers now s = filter (λ t. expired now (threadOf s t)) (arrivals s)
 
 -- "the clock is set, every sleeper .. ends with -110, and the answer is how many"
 unfoldable pub clockEffect : ℕ → World → Outcome

@@ -7,7 +7,7 @@ use Rattle.lists.specs.Lists.{filter}
 use Rattle.rules.specs.declared.event.Event.{Event}
 use Rattle.rules.specs.declared.event.Event.the-variants.{Call, Store, Clock, Interrupt, Query}
 use Rattle.rules.specs.declared.answer.Answer.{Answer}
-use Rattle.rules.specs.Tables.{World, fresh}
+use Rattle.tables.specs.Tables.{World, fresh}
 use Rattle.rules.specs.Events.{step}
 
 -- "the fresh state"; "Words at the start may be anything."

@@ -1,6 +1,4 @@
 -- Document 01 as definitions, a file for each of its sections, in its order.
-pub mod Sizes
-pub mod Tables
 pub mod Answers
 pub mod Commands
 pub mod WakeOp

@@ -3,7 +3,7 @@ use mathlib.Core.Bool.{Bool, not, cond, _||_}
 use Prim.Native.Nat.{ℕ, _+_, _-_, _/_, _%_, _^_}
 use lib.Dec.{eqb, leb, ltb}
 use lib.Bits.{bitAnd, bitOr, bitXor}
-use Rattle.rules.specs.Sizes.{wordLimit, matchAny}
+use Rattle.tables.specs.Sizes.{wordLimit, matchAny}
 
 -- "val3 is, from the top, 4 bits op, 4 cmp, 12 oparg, 12 cmparg"
 abbrev pub opField : ℕ → ℕ

@@ -1,4 +1,6 @@
 // What the kernel answers.
+ghost use mathlib.Core.Path.{_≡_};
+ghost use Rattle.rules.specs.Answers.{errnoNumber};
 
 // The error numbers of the Linux headers that a refusal can give.
 pub enum Errno {
@@ -12,6 +14,25 @@ pub enum Errno {
     EAGAIN,
     ETIMEDOUT,
     ENOMEM,
+}
+
+impl Errno {
+    pub fn number(self) -> u32
+        ensures { λ r. ⌜ r ≡ errnoNumber self ⌝ }
+    {
+        match self {
+            Errno::ENXIO => 6,
+            Errno::EBADF => 9,
+            Errno::ESRCH => 3,
+            Errno::EBUSY => 16,
+            Errno::ENOSYS => 38,
+            Errno::EINVAL => 22,
+            Errno::EFAULT => 14,
+            Errno::EAGAIN => 11,
+            Errno::ETIMEDOUT => 110,
+            Errno::ENOMEM => 12,
+        }
+    }
 }
 
 // The tests of the table of answers: the first that applies refuses.

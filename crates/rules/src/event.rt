@@ -12,6 +12,22 @@ pub enum Command {
     Unknown,
 }
 
+// Which arguments a command uses, besides uaddr.
+pub struct Uses {
+    // val as a wake cap
+    pub cap: bool,
+    // uaddr2, and timeout as the second cap
+    pub second: bool,
+    // val3 as a mask
+    pub mask: bool,
+    // the word at uaddr compared with a number
+    pub compare: bool,
+    // flag and timeout as a deadline: the command sleeps
+    pub deadline: bool,
+    // sleepers moved from uaddr to uaddr2
+    pub moves: bool,
+}
+
 // A futex call, with the argument names of futex(2); flag says whether a timeout is given.
 pub struct Call {
     pub process: u8,

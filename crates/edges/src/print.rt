@@ -1,0 +1,102 @@
+// What a script prints: answers, words and tables.
+use crate::script::last_code;
+use rules::answer::Answer;
+use tables::NO_ENTRY;
+use tables::State;
+use tables::THREADS;
+use tables::Thread;
+
+fn text(t: &[u8]) {
+    io::write_all(1, t);
+}
+
+fn number(n: u64) {
+    io::print_decimal(1, n);
+}
+
+fn spaced(n: u64) {
+    text(b" ");
+    number(n);
+}
+
+pub fn line(n: u64) {
+    number(n);
+    text(b"\n");
+}
+
+pub fn answer(a: Answer) {
+    match a {
+        Answer::Asleep => text(b"asleep\n"),
+        Answer::Count(n) => line(n as u64),
+        Answer::Refused(x) => {
+            text(b"-");
+            line(x.number() as u64);
+        }
+        Answer::Waiting(p) => {
+            number(p.waiting as u64);
+            spaced(p.count as u64);
+            spaced(p.lowest as u64);
+            text(b"\n");
+        }
+    }
+}
+
+fn bit(b: bool) -> u64 {
+    if b { 1 } else { 0 }
+}
+
+// A thread's record, unless it is as in fresh tables.
+fn thread(i: usize, t: Thread) {
+    let a = t.last;
+    let last = last_code(a);
+    if t.waiting | t.timed | (t.uaddr != 0) | (t.bitset != 0) | (t.deadline != 0) | (last != 0) {
+        text(b"thread");
+        spaced(i as u64);
+        spaced(bit(t.waiting));
+        spaced(t.uaddr as u64);
+        spaced(t.bitset as u64);
+        spaced(bit(t.timed));
+        spaced(t.deadline);
+        spaced(last);
+        text(b"\n");
+    }
+}
+
+// An entry of the list, with its place.
+fn entry(i: usize, e: u8) {
+    if e != NO_ENTRY {
+        spaced(i as u64);
+        text(b":");
+        number(e as u64);
+    }
+}
+
+fn list(s: State) {
+    text(b"list");
+    let mut i: usize = 0;
+    while i < THREADS {
+        let e = s.list[i];
+        entry(i, e);
+        i += 1;
+    }
+    text(b"\n");
+}
+
+fn threads(s: State) {
+    let mut i: usize = 0;
+    while i < THREADS {
+        let t = s.threads[i];
+        thread(i, t);
+        i += 1;
+    }
+}
+
+pub fn tables(s: State) {
+    text(b"clock");
+    spaced(s.clock);
+    text(b" count");
+    spaced(s.count as u64);
+    text(b"\n");
+    list(s);
+    threads(s);
+}

@@ -1,0 +1,123 @@
+-- What the tables' functions compute is what the rules say of each command.
+use mathlib.Core.Path.{_≡_, sym, ap, _∙_}
+use mathlib.Core.Bool.{Bool, not, cond, _&&_, _||_}
+use mathlib.Core.List.{List}
+use Prim.Native.Nat.{ℕ, _+_, _≤_}
+use native.Mathlib.Omega.{arith}
+use lib.ListN.{length, take, drop}
+use Rattle.lists.specs.Lists.{filter, elem, without}
+use Rattle.lists.proofs.Tests.{cases}
+use Rattle.lists.proofs.Filter.{filter-comm}
+use Rattle.lists.proofs.Occurs.{filter-agree}
+use Rattle.lists.proofs.Loops.{without-taken, filter-passed, length-parts}
+use Rattle.tables.specs.declared.State.{State}
+use Rattle.tables.specs.declared.Taken.{Taken}
+use Rattle.tables.specs.declared.LastAnswer.{LastAnswer}
+use Rattle.tables.specs.declared.LastAnswer.the-variants.{Woken}
+use Rattle.rules.specs.declared.event.Command.{Command}
+use Rattle.rules.specs.declared.event.Call.{Call}
+use Rattle.rules.specs.declared.event.Uses.{Uses}
+use Rattle.rules.specs.declared.answer.Answer.the-variants.{Count}
+use Rattle.tables.specs.Sizes.{threads}
+use Rattle.tables.specs.Tables.{World, threadOf, arrivals, sharesBit, sleepsAt, wordAt, endSleeps, writeWord}
+use Rattle.tables.specs.Steps.{Flags, flagged, endFirst, moveFirst}
+use Rattle.rules.specs.Commands.{commandOf, uses}
+use Rattle.rules.specs.WakeOp.{compares}
+use Rattle.rules.specs.Calls.{matches, secondCap, candidates, released, moved, releasedSecond, wake, requeue, wakeOp}
+use Rattle.kernel.specs.Follows.{world, answered}
+use Rattle.tables.proofs.Changes.{arrivals-end, end-append}
+use Rattle.tables.proofs.Sound.{Sound, waiting-below, listed-waiting, once, arrivals-fit}
+use Rattle.tables.proofs.Kept.{sound-end}
+use Rattle.rules.proofs.Chosen.{candidate, candidates-are}
+
+-- sleeps that end keep the table rules
+pub end-sound : (a : LastAnswer) (f : ℕ → Bool) (cap : ℕ) (s : State) → Sound s → Sound (endFirst a f cap s .state)
+unfolding endFirst
+end-sound a f cap s g = sound-end a (take cap (filter f (arrivals s))) s (g .records) (λ t e. g .kept t) (g .exact)
+
+-- a count of listed threads is small
+pub end-few : (a : LastAnswer) (f : ℕ → Bool) (cap : ℕ) (s : State) → Sound s → endFirst a f cap s .n ≤ threads
+unfolding endFirst
+end-few a f cap s g = omega (arith, length-parts f (arrivals s) cap, arrivals-fit s g)
+
+pub move-few : (a : ℕ) (f : ℕ → Bool) (cap : ℕ) (s : State) → Sound s → moveFirst a f cap s .n ≤ threads
+unfolding moveFirst
+move-few a f cap s g = omega (arith, length-parts f (arrivals s) cap, arrivals-fit s g)
+
+-- The flags of the tables' search say who the candidates are, where it was made with what the command uses.
+pub chosen : (c : Call) (a : ℕ) (s : State) → Sound s → (u : Uses) → u ≡ uses (commandOf (c .op)) → (flags : List Bool)
+    → Flags flags (λ t. (not (u .mask) || sharesBit (c .val3) (threadOf s t)) && sleepsAt (c .process) a s t)
+    → filter (flagged flags) (arrivals s) ≡ candidates (matches (commandOf (c .op)) c) (c .process) a s
+chosen c a s g u is flags h =
+    filter-agree (flagged flags) (candidate (matches (commandOf (c .op)) c) (c .process) a s) (arrivals s)
+    (λ t e. h t (waiting-below s g t (sym (listed-waiting s g t) ∙ e))
+    ∙ ap (λ (v : Uses). (not (v .mask) || sharesBit (c .val3) (threadOf s t)) && sleepsAt (c .process) a s t) is)
+    ∙ sym (candidates-are (matches (commandOf (c .op)) c) (c .process) a s)
+
+module _ (k : Command) (c : Call) (s : State) (g : Sound s) (f : ℕ → Bool)
+    (is : filter f (arrivals s) ≡ candidates (matches k c) (c .process) (c .uaddr) s) where
+  abbrev first : Taken
+  first = endFirst Woken f (c .val) s
+
+  pub wakes : (words : List ℕ) → record { answer = Count (first .n); state = first .state } ≡ answered (wake k c (world s words))
+  unfolding wake released endFirst
+  wakes words = cc (is)
+
+  -- who is left at the word
+  left : filter f (arrivals (first .state)) ≡ drop (c .val) (candidates (matches k c) (c .process) (c .uaddr) s)
+  unfolding endFirst
+  left =
+      ap (filter f) (arrivals-end Woken (take (c .val) (filter f (arrivals s))) s ∙ without-taken f (arrivals s) (c .val) (once s g))
+      ∙ filter-passed f (arrivals s) (c .val)
+      ∙ ap (drop (c .val)) is
+
+  abbrev next : Taken
+  next = moveFirst (c .uaddr2) f (secondCap c) (first .state)
+
+  pub requeues : (words : List ℕ)
+      → record { answer = Count (first .n + cond (uses k .compare) (next .n) 0); state = next .state } ≡ answered (requeue k c (world s words))
+  unfolding requeue released moved moveFirst
+  requeues words = cc (left, first-is)
+    where
+      first-is : first ≡ record { state = endSleeps Woken (released k c s) s; n = length (released k c s) }
+      first-is = unfold endFirst released in cc (is)
+
+-- WAKE_OP: who is released at the second word, once those of the first have left
+module _ (k : Command) (c : Call) (w : World) (g : Sound (w .state)) (f h : ℕ → Bool)
+    (is : filter f (arrivals (w .state)) ≡ candidates (matches k c) (c .process) (c .uaddr) (w .state))
+    (is2 : filter h (arrivals (w .state)) ≡ candidates (matches k c) (c .process) (c .uaddr2) (w .state)) where
+  abbrev one : Taken
+  one = endFirst Woken f (c .val) (w .state)
+
+  abbrev holds : Bool
+  holds = compares (c .val3) (wordAt w (c .process) (c .uaddr2))
+
+  abbrev two : Taken
+  two = endFirst Woken h (cond holds (secondCap c) 0) (one .state)
+
+  one-is : one ≡ record { state = endSleeps Woken (released k c (w .state)) (w .state); n = length (released k c (w .state)) }
+  one-is = unfold endFirst released in cc (is)
+
+  still : filter h (arrivals (endSleeps Woken (released k c (w .state)) (w .state)))
+      ≡ without (released k c (w .state)) (candidates (matches k c) (c .process) (c .uaddr2) (w .state))
+  still =
+      ap (filter h) (arrivals-end Woken (released k c (w .state)) (w .state))
+      ∙ filter-comm h (λ t. not (elem t (released k c (w .state)))) (arrivals (w .state))
+      ∙ ap (without (released k c (w .state))) is2
+
+  second-is : take (cond holds (secondCap c) 0) (filter h (arrivals (endSleeps Woken (released k c (w .state)) (w .state)))) ≡ releasedSecond k c w
+  unfolding releasedSecond
+  second-is = rw still (cases holds (λ e. rw e) (λ e. rw e))
+
+  two-is : two ≡ record { state = endSleeps Woken (releasedSecond k c w) (endSleeps Woken (released k c (w .state)) (w .state)); n = length (releasedSecond k c w) }
+  two-is =
+      ap (λ (t : Taken). endFirst Woken h (cond holds (secondCap c) 0) (t .state)) one-is
+      ∙ (unfold endFirst in cc (second-is))
+
+  pub releases-both : record { answer = Count (one .n + two .n); state = two .state } ≡ answered (wakeOp k c w)
+  unfolding wakeOp writeWord
+  releases-both =
+      let n = ap (λ (t : Taken). t .n) one-is in
+      let m = ap (λ (t : Taken). t .n) two-is in
+      let s = ap (λ (t : Taken). t .state) two-is ∙ end-append Woken (released k c (w .state)) (releasedSecond k c w) (w .state) in
+      λ i. record { answer = Count (n i + m i); state = s i }

@@ -1,0 +1,73 @@
+-- The clock's and an interrupt's sleepers, and the waiting set.
+use mathlib.Core.Path.{_≡_, refl, sym, ap, _∙_}
+use mathlib.Core.Bool.{Bool, true, false}
+use mathlib.Core.List.{List}
+use Prim.Native.Nat.{ℕ, _+_, _*_, _^_, _<_}
+use native.Mathlib.Omega.{arith}
+use native.Mathlib.Numerals.{add-one}
+use lib.ListN.{length, take, set, replicate}
+use lib.Seq.{take-all}
+use lib.Dec.{eqb}
+use borrow.Author.Tests.{eqb-true, eqb-false}
+use Rattle.lists.specs.Lists.{filter, bit}
+use Rattle.lists.proofs.Tests.{cases}
+use Rattle.lists.proofs.Filter.{length-filter, getD-replicated}
+use Rattle.lists.proofs.Occurs.{filter-agree, filter-same}
+use Rattle.tables.specs.declared.State.{State}
+use Rattle.tables.specs.declared.Taken.{Taken}
+use Rattle.tables.specs.declared.LastAnswer.the-variants.{TimedOut, Interrupted}
+use Rattle.rules.specs.declared.answer.Answer.the-variants.{Count}
+use Rattle.tables.specs.Sizes.{threads}
+use Rattle.tables.specs.Tables.{World, threadOf, arrivals, expired, expiredSleepers, withClock, endSleeps}
+use Rattle.tables.specs.Steps.{Flags, flagged, endFirst}
+use Rattle.rules.specs.Events.{bitsBelow, clockEffect, interruptEffect}
+use Rattle.kernel.specs.Follows.{world, answered}
+use Rattle.tables.proofs.Sound.{Sound, waiting-below, listed-waiting, arrivals-fit}
+use Rattle.tables.proofs.Flags.{flag-here, flag-there}
+use Rattle.tables.proofs.Stored.{end-nobody}
+
+-- flags that say which listed threads pass
+flagged-listed : (s : State) → Sound s → (flags : List Bool) (f : ℕ → Bool) → Flags flags f → filter (flagged flags) (arrivals s) ≡ filter f (arrivals s)
+flagged-listed s g flags f h = filter-agree (flagged flags) f (arrivals s) (λ t e. h t (waiting-below s g t (sym (listed-waiting s g t) ∙ e)))
+
+-- the clock: everybody whose deadline has come, since the cap is the whole list
+pub clock-ends : (now : ℕ) (s : State) (ws : List ℕ) → Sound s → (flags : List Bool) → Flags flags (λ t. expired now (threadOf s t))
+    → (taken : Taken) → taken ≡ endFirst TimedOut (flagged flags) threads s
+    → record { answer = Count (taken .n); state = withClock now (taken .state) }
+    ≡ answered (clockEffect now (world s ws))
+unfolding clockEffect endFirst endSleeps
+clock-ends now s ws g flags h taken is =
+    ap (λ (v : Taken). record { answer = Count (v .n); state = withClock now (v .state) })
+    (is ∙ ap (λ l. record { state = endSleeps TimedOut l s; n = length l }) all-of-them)
+  where
+    all-of-them : take threads (filter (flagged flags) (arrivals s)) ≡ expiredSleepers now s
+    all-of-them =
+        take-all threads (filter (flagged flags) (arrivals s)) (omega (arith, length-filter (flagged flags) (arrivals s), arrivals-fit s g))
+        ∙ (unfold expiredSleepers in flagged-listed s g flags (λ t. expired now (threadOf s t)) h)
+
+-- an interrupt: the thread, if it is listed
+one-flag : (t : ℕ) → t < threads → Flags (set (replicate threads false) t true) (λ u. eqb u t)
+one-flag t low u h = cases (eqb u t)
+    (λ e. rw (e, eqb-true u t e) (flag-here (replicate threads false) t true low))
+    (λ e. flag-there (replicate threads false) t u true (eqb-false u t e) ∙ rw e (getD-replicated threads u false))
+
+pub interrupt-ends : (t : ℕ) (s : State) (ws : List ℕ) → Sound s → t < threads → (taken : Taken)
+    → taken ≡ endFirst Interrupted (flagged (set (replicate threads false) t true)) 1 s
+    → record { answer = Count (taken .n); state = taken .state } ≡ answered (interruptEffect t (world s ws))
+unfolding interruptEffect endFirst
+interrupt-ends t s ws g low taken is =
+    ap (λ (v : Taken). record { answer = Count (v .n); state = v .state }) (is ∙ ap (λ l. record { state = endSleeps Interrupted (take 1 l) s; n = length (take 1 l) }) found)
+    ∙ cases (threadOf s t .waiting)
+    (λ e. rw e)
+    (λ e. rw e (ap (λ v. record { answer = Count 0; state = v }) (end-nobody Interrupted s g)))
+  where
+    found : filter (flagged (set (replicate threads false) t true)) (arrivals s) ≡ replicate (bit (threadOf s t .waiting)) t
+    found = flagged-listed s g (set (replicate threads false) t true) (λ u. eqb u t) (one-flag t low) ∙ filter-same t (arrivals s) ∙ ap (λ n. replicate n t) (g .exact t)
+
+pub interrupt-words : (t : ℕ) (w : World) → interruptEffect t w .world .words ≡ w .words
+unfolding interruptEffect
+interrupt-words t w = cases (threadOf (w .state) t .waiting) (λ e. rw e) (λ e. rw e)
+
+-- one bit more
+pub bitsBelow-next : (n : ℕ) (f : ℕ → Bool) → bitsBelow (n + 1) f ≡ bitsBelow n f + bit (f n) * 2 ^ n
+bitsBelow-next n f = rw (add-one n) (unfold bitsBelow in refl)

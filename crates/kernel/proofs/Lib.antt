@@ -1,0 +1,5 @@
+pub mod Effects
+pub mod Calls
+pub mod Steps
+pub mod Events
+pub mod Theorems

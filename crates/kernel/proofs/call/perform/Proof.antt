@@ -1,0 +1,93 @@
+use borrow.Author.Needs.{needs}
+use mathlib.Core.Path.{_≡_, sym, ap, _∙_}
+use Rattle.rules.specs.declared.event.Uses.{Uses}
+use Rattle.rules.specs.Answers.{Outcome}
+use Rattle.rules.specs.Commands.{commandOf}
+use Rattle.rules.specs.Calls.{wait, wake, requeue, wakeOp, callEffect}
+use Rattle.kernel.specs.Follows.{world, answered}
+use Rattle.kernel.proofs.Calls.{by-uses}
+use Rattle.kernel.proofs.call.perform.Statement.{statement}
+use Rattle.kernel.proofs.call.perform.Tie as tie
+
+uses-by-requires : tie.Need-uses-by-requires
+uses-by-requires c κs = search needs
+
+wait-requires : tie.Need-wait-requires
+wait-requires c κs = search needs
+
+returns : tie.Need-returns
+unfolding wait
+returns c =
+    let m = c .before .before in
+    let g = m .before .before in
+    let k = commandOf (g .args .c .op) in
+    let w = world (g .args .s) (g .args .words .now) in
+    let u = m .uses-by .ensures in
+    let is : callEffect k (g .args .c) w ≡ wait k (g .args .c) w =
+    by-uses k (g .args .c) w (g .pre .known) ∙ rw (sym (ap (λ (v : Uses). v .deadline) u) ∙ c .before .if1 .taken) in
+    (c .wait .ensures ∙ ap answered (sym is), ap (λ (o : Outcome). o .world .words) (sym is))
+
+requeue-requires : tie.Need-requeue-requires
+requeue-requires c κs = search needs
+
+returns-2 : tie.Need-returns-2
+unfolding requeue
+returns-2 c =
+    let m = c .before .before .before in
+    let g = m .before .before in
+    let k = commandOf (g .args .c .op) in
+    let w = world (g .args .s) (g .args .words .now) in
+    let u = m .uses-by .ensures in
+    let is : callEffect k (g .args .c) w ≡ requeue k (g .args .c) w =
+    by-uses k (g .args .c) w (g .pre .known) ∙ rw (sym (ap (λ (v : Uses). v .deadline) u) ∙ c .before .before .if1 .left, sym (ap (λ (v : Uses). v .moves) u) ∙ c .before .if2 .taken) in
+    (c .requeue .ensures ∙ ap answered (sym is), ap (λ (o : Outcome). o .world .words) (sym is))
+
+wake-op-requires : tie.Need-wake-op-requires
+wake-op-requires c κs =
+    let m = c .before .before .before .before in
+    let g = m .before .before in
+    (g .pre .ready, (g .pre .second (sym (ap (λ (v : Uses). v .second) (m .uses-by .ensures)) ∙ c .before .if3 .taken), g .pre .memory))
+
+same-length : tie.Need-same-length
+same-length c = search needs
+
+returns-3 : tie.Need-returns-3
+returns-3 c =
+    let m = c .before .before .before .before .before .before .before in
+    let g = m .before .before in
+    let k = commandOf (g .args .c .op) in
+    let w = world (g .args .s) (g .args .words .now) in
+    let u = m .uses-by .ensures in
+    let is : callEffect k (g .args .c) w ≡ wakeOp k (g .args .c) w =
+    by-uses k (g .args .c) w (g .pre .known) ∙ rw (sym (ap (λ (v : Uses). v .deadline) u) ∙ c .before .before .before .before .before .before .if1 .left, sym (ap (λ (v : Uses). v .moves) u) ∙ c .before .before .before .before .before .if2 .left, sym (ap (λ (v : Uses). v .second) u) ∙ c .before .before .before .before .if3 .taken) in
+    (c .before .before .wake-op .ensures .0 ∙ ap answered (sym is), c .before .before .wake-op .ensures .1 ∙ ap (λ (o : Outcome). o .world .words) (sym is))
+
+wake-requires : tie.Need-wake-requires
+wake-requires c κs = search needs
+
+returns-4 : tie.Need-returns-4
+unfolding wake
+returns-4 c =
+    let m = c .before .before .before .before in
+    let g = m .before .before in
+    let k = commandOf (g .args .c .op) in
+    let w = world (g .args .s) (g .args .words .now) in
+    let u = m .uses-by .ensures in
+    let is : callEffect k (g .args .c) w ≡ wake k (g .args .c) w =
+    by-uses k (g .args .c) w (g .pre .known) ∙ rw (sym (ap (λ (v : Uses). v .deadline) u) ∙ c .before .before .before .if1 .left, sym (ap (λ (v : Uses). v .moves) u) ∙ c .before .before .if2 .left, sym (ap (λ (v : Uses). v .second) u) ∙ c .before .if3 .left) in
+    (c .wake .ensures ∙ ap answered (sym is), ap (λ (o : Outcome). o .world .words) (sym is))
+
+pub perform-spec : {M : Type 1} → statement M
+perform-spec =
+    tie.close
+    (tie.spec
+    uses-by-requires
+    wait-requires
+    returns
+    requeue-requires
+    returns-2
+    wake-op-requires
+    same-length
+    returns-3
+    wake-requires
+    returns-4)

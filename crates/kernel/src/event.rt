@@ -1,0 +1,160 @@
+// Other events: stores, clock events, interrupts and panel queries; and any event.
+ghost use mathlib.Core.Path.{_≡_};
+ghost use Prim.Native.Nat.{_*_, _≤_, _<_};
+ghost use Rattle.lists.specs.Lists.{bit};
+ghost use Rattle.tables.specs.Sizes.{processes};
+ghost use Rattle.rules.specs.declared.event.Event.the-variants.{Store, Clock, Interrupt};
+ghost use Rattle.rules.specs.Events.{waitingSet, panel};
+ghost use Rattle.kernel.specs.Follows.{Follows};
+use crate::Answered;
+use crate::call::call;
+use crate::counted;
+use crate::refused;
+use rules::answer::Answer;
+use rules::answer::Errno;
+use rules::answer::Panel;
+use rules::answer::Verdict;
+use rules::event::Event;
+use tables::LastAnswer;
+use tables::PROCESSES;
+use tables::State;
+use tables::THREADS;
+use tables::THREADS_PER_PROCESS;
+use tables::WORDS;
+use tables::check::tables_ok;
+use verdicts::command::thread_index;
+use verdicts::command::word_index;
+use verdicts::verdict::no_thread;
+use verdicts::verdict::row;
+
+const WORD_BYTES: u32 = 4;
+
+const PROCESS_BYTES: u32 = 4096;
+
+// A store: one word is written, and nobody wakes.
+pub fn store(s: State, words: &mut [u32], process: u8, address: u32, value: u32) -> Answered
+    ensures { λ r. ⌜ Follows (Store process address value) s (now (words .entry)) r (now (words .exit)) ⌝ }
+{
+    let sound = tables_ok(s);
+    let v = row(Errno::EFAULT, PROCESS_BYTES <= address, Verdict::Pass);
+    let v = row(Errno::EINVAL, address % WORD_BYTES != 0, v);
+    let v = row(Errno::ESRCH, PROCESSES <= process as usize, v);
+    let v = row(Errno::EBADF, !sound, v);
+    let v = row(Errno::ENXIO, words.len() != WORDS, v);
+    match v {
+        Verdict::Refuse(x) => refused(x, s),
+        Verdict::Pass => {
+            let i = word_index(process, address);
+            words[i] = value;
+            counted(0, s)
+        }
+    }
+}
+
+// A clock event: the clock is set, and the sleepers whose deadline has come end.
+pub fn set_clock(s: State, words: &[u32], time: u64) -> Answered
+    ensures { λ r. ⌜ Follows (Clock time) s (now (words .entry)) r (now (words .entry)) ⌝ }
+{
+    let sound = tables_ok(s);
+    let v = row(Errno::EINVAL, time < s.clock, Verdict::Pass);
+    let v = row(Errno::EBADF, !sound, v);
+    let v = row(Errno::ENXIO, words.len() != WORDS, v);
+    match v {
+        Verdict::Refuse(x) => refused(x, s),
+        Verdict::Pass => {
+            let flags = s.expired(time);
+            let taken = s.end_first(flags, THREADS, LastAnswer::TimedOut);
+            let mut next = taken.state;
+            next.clock = time;
+            counted(taken.n, next)
+        }
+    }
+}
+
+// An interrupt of a thread: a sleeper ends.
+pub fn interrupt(s: State, words: &[u32], process: u8, index: u8) -> Answered
+    ensures { λ r. ⌜ Follows (Interrupt process index) s (now (words .entry)) r (now (words .entry)) ⌝ }
+{
+    let sound = tables_ok(s);
+    let v = row(Errno::ESRCH, no_thread(process, index), Verdict::Pass);
+    let v = row(Errno::EBADF, !sound, v);
+    let v = row(Errno::ENXIO, words.len() != WORDS, v);
+    match v {
+        Verdict::Refuse(x) => refused(x, s),
+        Verdict::Pass => {
+            let t = thread_index(process, index);
+            let mut flags = [false; THREADS];
+            flags[t] = true;
+            let taken = s.end_first(flags, 1, LastAnswer::Interrupted);
+            let next = taken.state;
+            counted(taken.n, next)
+        }
+    }
+}
+
+// The place value of a bit that is set, or 0.
+fn bit_at(set: bool, value: u32) -> u32
+    ensures { λ r. ⌜ (r ≡ bit set * value) × (r ≤ value) ⌝ }
+{
+    if set { value } else { 0 }
+}
+
+// The waiting threads of a process, a bit for each. It is called by query, for a process that exists.
+fn waiting_set(s: State, process: usize) -> u8
+    requires { ⌜ process < processes ⌝ }
+    ensures { λ r. ⌜ r ≡ waitingSet process s ⌝ }
+{
+    let mut bits: u32 = 0;
+    let mut one: u32 = 1;
+    let base = THREADS_PER_PROCESS * process;
+    let mut i: usize = 0;
+    while i < THREADS_PER_PROCESS {
+        let t = s.threads[base + i];
+        let b = bit_at(t.waiting, one);
+        bits += b;
+        one = one * 2;
+        i += 1;
+    }
+    bits as u8
+}
+
+// A panel query: the waiting threads of a process, how many they are, and the lowest.
+pub fn query(s: State, process: u8) -> Panel
+    ensures { λ r. ⌜ r ≡ panel process s ⌝ }
+{
+    let sound = tables_ok(s);
+    let exists = (process as usize) < PROCESSES;
+    let bits = if sound & exists {
+        waiting_set(s, process as usize)
+    } else {
+        0
+    };
+    Panel {
+        waiting: bits,
+        count: u8::count_ones(bits),
+        lowest: u8::trailing_zeros(bits),
+    }
+}
+
+// Any event, for hosts and replays.
+pub fn apply(s: State, words: &mut [u32], e: Event) -> Answered
+    ensures { λ r. ⌜ Follows e s (now (words .entry)) r (now (words .exit)) ⌝ }
+{
+    match e {
+        Event::Call(c) => call(s, words, c),
+        Event::Store {
+            process,
+            address,
+            value,
+        } => store(s, words, process, address, value),
+        Event::Clock { time } => set_clock(s, words, time),
+        Event::Interrupt { process, index } => interrupt(s, words, process, index),
+        Event::Query { process } => {
+            let p = query(s, process);
+            Answered {
+                answer: Answer::Waiting(p),
+                state: s,
+            }
+        }
+    }
+}

@@ -1,0 +1,102 @@
+-- What the changes of the tables leave: each record and the arrival list.
+use mathlib.Core.Path.{_≡_, refl, sym, ap, _∙_}
+use mathlib.Core.Bool.{true, false, cond, or-true, or-false}
+use mathlib.Core.List.{List, [], _∷_, _++_}
+use Prim.Native.Nat.{ℕ, _<_, _-_}
+use native.Mathlib.Omega.{arith}
+use lib.ListN.{length, getD, set, replicate, length-set}
+use lib.Seq.{take-append-seam, getD-set-same, getD-set-other, ext-getD}
+use lib.Dec.{eqb}
+use borrow.Author.Tests.{eqb-true, eqb-false}
+use Rattle.lists.specs.Lists.{update, elem, without}
+use Rattle.lists.proofs.Tests.{cases}
+use Rattle.lists.proofs.Occurs.{eqb-refl, elem-append, without-append}
+use Rattle.lists.proofs.Update.{length-update, getD-update, getD-update-fixed, update-comm, update-id}
+use Rattle.tables.specs.declared.State.{State}
+use Rattle.tables.specs.declared.Thread.{Thread}
+use Rattle.tables.specs.declared.LastAnswer.{LastAnswer}
+use Rattle.tables.specs.Sizes.{threads, noEntry}
+use Rattle.tables.specs.Tables.{arrivals, change, ended, withArrivals, withThreads, endSleeps, moveSleeps}
+
+-- records
+pub length-change : (f : Thread → Thread) (ts : List ℕ) (rs : List Thread) → length (change f ts rs) ≡ length rs
+unfolding change
+length-change f ts rs = length-update _ rs
+
+pub change-other : (f : Thread → Thread) (ts : List ℕ) (rs : List Thread) (t : ℕ) (d : Thread) → elem t ts ≡ false
+    → getD (change f ts rs) t d ≡ getD rs t d
+unfolding change
+change-other f ts rs t d e = getD-update-fixed (λ t r. cond (elem t ts) (f r) r) rs t d (rw e) ∙ rw e
+
+change-at : (f : Thread → Thread) (ts : List ℕ) (rs : List Thread) (t : ℕ) (d : Thread) → t < length rs
+    → getD (change f ts rs) t d ≡ cond (elem t ts) (f (getD rs t d)) (getD rs t d)
+unfolding change
+change-at f ts rs t d h = getD-update (λ t r. cond (elem t ts) (f r) r) rs t d h
+
+pub change-named : (f : Thread → Thread) (ts : List ℕ) (rs : List Thread) (t : ℕ) (d : Thread) → elem t ts ≡ true
+    → t < length rs → getD (change f ts rs) t d ≡ f (getD rs t d)
+change-named f ts rs t d e h = change-at f ts rs t d h ∙ rw e
+
+pub change-none : (f : Thread → Thread) (rs : List Thread) → change f [] rs ≡ rs
+unfolding change
+change-none f rs = update-id _ (λ t r. refl) rs
+
+-- one more thread changed, by a change that leaves what it has changed
+module _ (f : Thread → Thread) (again : (r : Thread) → f (f r) ≡ f r) (ts : List ℕ) (rs : List Thread) (t : ℕ) (d : Thread) (h : t < length rs) where
+  abbrev new : Thread
+  new = f (getD (change f ts rs) t d)
+
+  new-is : new ≡ f (getD rs t d)
+  new-is = cases (elem t ts)
+      (λ e. rw (change-named f ts rs t d e h) (again (getD rs t d)))
+      (λ e. rw (change-other f ts rs t d e))
+
+  at-next : (i : ℕ) → i < length rs → getD (change f (ts ++ (t ∷ [])) rs) i d ≡ getD (set (change f ts rs) t new) i d
+  at-next i l = cases (eqb i t)
+      (λ e.
+      let it = eqb-true i t e in
+      let listed : elem t (ts ++ (t ∷ [])) ≡ true = elem-append t ts (t ∷ []) ∙ rw (eqb-refl t) (or-true (elem t ts)) in
+      rw it
+      (change-named f (ts ++ (t ∷ [])) rs t d listed h
+      ∙ sym (getD-set-same (change f ts rs) t new d (omega (arith, length-change f ts rs)) ∙ new-is)))
+      (λ e.
+      let same : elem i (ts ++ (t ∷ [])) ≡ elem i ts = elem-append i ts (t ∷ []) ∙ rw e (or-false (elem i ts)) in
+      change-at f (ts ++ (t ∷ [])) rs i d l
+      ∙ rw same (sym (change-at f ts rs i d l))
+      ∙ sym (getD-set-other (change f ts rs) t i new d (eqb-false i t e)))
+
+  pub change-next : change f (ts ++ (t ∷ [])) rs ≡ set (change f ts rs) t new
+  change-next =
+      ext-getD d (change f (ts ++ (t ∷ [])) rs) (set (change f ts rs) t new)
+      (length-change f (ts ++ (t ∷ [])) rs ∙ sym (length-set (change f ts rs) t new ∙ length-change f ts rs))
+      (λ i l. at-next i (omega (arith, length-change f (ts ++ (t ∷ [])) rs)))
+
+-- the arrival list
+pub arrivals-with : (l : List ℕ) (s : State) → arrivals (withArrivals l s) ≡ l
+arrivals-with l s = take-append-seam l (replicate (threads - length l) noEntry)
+
+pub arrivals-end : (a : LastAnswer) (ts : List ℕ) (s : State) → arrivals (endSleeps a ts s) ≡ without ts (arrivals s)
+unfolding endSleeps
+arrivals-end a ts s = arrivals-with (without ts (arrivals s)) s
+
+pub arrivals-move : (a : ℕ) (ts : List ℕ) (s : State) → arrivals (moveSleeps a ts s) ≡ without ts (arrivals s) ++ ts
+unfolding moveSleeps
+arrivals-move a ts s = arrivals-with (without ts (arrivals s) ++ ts) s
+
+-- sleeps that end, and then others
+change-append : (a : LastAnswer) (us ts : List ℕ) (rs : List Thread) → change (ended a) ts (change (ended a) us rs) ≡ change (ended a) (us ++ ts) rs
+unfolding change
+change-append a us ts rs =
+    update-comm _ _ (λ t r. r) (λ t r. cond (elem t (us ++ ts)) (ended a r) r) pointwise rs
+    ∙ ap (update (λ t r. cond (elem t (us ++ ts)) (ended a r) r)) (update-id (λ t r. r) (λ t r. refl) rs)
+  where
+    pointwise : (t : ℕ) (r : Thread)
+        → cond (elem t ts) (ended a (cond (elem t us) (ended a r) r)) (cond (elem t us) (ended a r) r) ≡ cond (elem t (us ++ ts)) (ended a r) r
+    pointwise t r = rw (elem-append t us ts) (cases (elem t us)
+        (λ e. rw e (cases (elem t ts) (λ d. rw d) (λ d. rw d)))
+        (λ e. rw e))
+
+pub end-append : (a : LastAnswer) (us ts : List ℕ) (s : State) → endSleeps a ts (endSleeps a us s) ≡ endSleeps a (us ++ ts) s
+unfolding endSleeps
+end-append a us ts s =
+    cc (change-append a us ts (s .threads), arrivals-with (without us (arrivals s)) (withThreads (change (ended a) us (s .threads)) s), without-append us ts (arrivals s))

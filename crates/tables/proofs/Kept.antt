@@ -1,0 +1,143 @@
+-- Every change, event and history keeps the table rules.
+use mathlib.Core.Path.{_≡_, refl, sym, ap, _∙_}
+use mathlib.Core.Bool.{Bool, true, false, not, _&&_}
+use mathlib.Core.List.{List, [], _∷_, _++_}
+use Prim.Native.Nat.{ℕ, _≤_, _<_}
+use native.Mathlib.Omega.{arith}
+use lib.ListN.{length, List·getD-eq-default}
+use lib.Dec.{eqb, leb, ltb}
+use borrow.Author.Tests.{eqb-true, leb-false, ltb-true, ltb-false, lt-ltb}
+use Rattle.lists.specs.Lists.{filter, elem, without, bit, padTo}
+use Rattle.lists.proofs.Tests.{cases, clash, and-intro, and-left, and-right, or-left}
+use Rattle.lists.proofs.Occurs.{occurs, bit-le, bit-true, eqb-refl, elem-occurs, absent-occurs, occurs-append, occurs-filter, occurs-without, occurs-taken-out}
+use Rattle.tables.specs.declared.State.{State}
+use Rattle.tables.specs.declared.Thread.{Thread}
+use Rattle.tables.specs.declared.LastAnswer.{LastAnswer}
+use Rattle.tables.specs.declared.LastAnswer.the-variants.{NoneYet, TimedOut}
+use Rattle.tables.specs.Sizes.{threads, bytesPerProcess, noEntry}
+use Rattle.tables.specs.Tables.{running, threadOf, arrivals, aligned, outside, expired, expiredSleepers, deadlineOk, waitingOk, recordOk, change, ended, movedTo, withArrivals, withThreads, withClock, endSleeps, moveSleeps, fallAsleep}
+use Rattle.tables.proofs.Changes.{length-change, change-other, change-named, arrivals-with}
+use Rattle.tables.proofs.Sound.{Sound, waiting-below, running-ok}
+
+-- the records of ts changed by f, and a new arrival list
+unfoldable altered : (Thread → Thread) → List ℕ → List ℕ → State → State
+altered f ts l s = withArrivals l (withThreads (change f ts (s .threads)) s)
+
+-- The rules are kept where the changed records keep them and the list has the waiting threads.
+module _ (f : Thread → Thread) (ts l : List ℕ) (s : State) (size : length (s .threads) ≡ threads) where
+  altered-record : (P : Thread → Type 0) (t : ℕ) → (elem t ts ≡ true → threads ≤ t → P (running NoneYet))
+      → (elem t ts ≡ true → P (f (threadOf s t))) → (elem t ts ≡ false → P (threadOf s t)) → P (threadOf (altered f ts l s) t)
+  unfolding altered
+  altered-record P t beyond named other = cases (elem t ts)
+      (λ e. cases (ltb t threads)
+      (λ h. rw (change-named f ts (s .threads) t (running NoneYet) e (let k = ltb-true t threads h in omega arith)) (named e))
+      (λ h. let out = ltb-false t threads h in
+      rw (List·getD-eq-default (change f ts (s .threads)) (running NoneYet) {n = t} (omega (arith, length-change f ts (s .threads)))) (beyond e out)))
+      (λ e. rw (change-other f ts (s .threads) t (running NoneYet) e) (other e))
+
+  sound-altered : ((t : ℕ) → elem t ts ≡ true → recordOk (s .clock) (f (threadOf s t)) ≡ true)
+      → ((t : ℕ) → elem t ts ≡ false → recordOk (s .clock) (threadOf s t) ≡ true)
+      → ((t : ℕ) → occurs t l ≡ bit (threadOf (altered f ts l s) t .waiting))
+      → Sound (altered f ts l s)
+  unfolding altered
+  sound-altered named other exact =
+      record {
+        records = length-change f ts (s .threads) ∙ size;
+        stored = ap (λ m. padTo threads noEntry m) (sym (arrivals-with l s));
+        counted = ap length (sym (arrivals-with l s));
+        kept = λ t. altered-record (λ r. recordOk (s .clock) r ≡ true) t (λ e h. running-ok (s .clock) NoneYet) (named t) (other t);
+        exact = λ t. ap (occurs t) (arrivals-with l s) ∙ exact t;
+      }
+
+-- sleeps that end
+pub sound-end : (a : LastAnswer) (ts : List ℕ) (s : State) → length (s .threads) ≡ threads
+    → ((t : ℕ) → elem t ts ≡ false → recordOk (s .clock) (threadOf s t) ≡ true)
+    → ((t : ℕ) → occurs t (arrivals s) ≡ bit (threadOf s t .waiting))
+    → Sound (endSleeps a ts s)
+unfolding endSleeps altered
+sound-end a ts s size other exact =
+    sound-altered (ended a) ts (without ts (arrivals s)) s size (λ t e. running-ok (s .clock) a) other
+    (λ t. altered-record (ended a) ts (without ts (arrivals s)) s size (λ r. occurs t (without ts (arrivals s)) ≡ bit (r .waiting)) t
+    (λ e h. occurs-taken-out t ts (arrivals s) e)
+    (λ e. occurs-taken-out t ts (arrivals s) e)
+    (λ e. occurs-without t ts (arrivals s) e ∙ exact t))
+
+-- sleeps that move
+waiting-ok : (now : ℕ) (r : Thread) → recordOk now r ≡ true → r .waiting ≡ true → waitingOk now r ≡ true
+unfolding recordOk
+waiting-ok now r ok on = rw on at ok
+
+pub below-ok : (a : ℕ) → outside a ≡ false → ltb a bytesPerProcess ≡ true
+below-ok a h = lt-ltb a bytesPerProcess (leb-false bytesPerProcess a h)
+
+moved-ok : (a now : ℕ) (r : Thread) → aligned a ≡ true → outside a ≡ false → recordOk now r ≡ true → r .waiting ≡ true
+    → recordOk now (movedTo a r) ≡ true
+unfolding recordOk
+moved-ok a now r al near ok on =
+    let w = waiting-ok now r ok on in
+    let m = and-left (aligned (r .uaddr) && ltb (r .uaddr) bytesPerProcess && not (eqb (r .bitset) 0)) (deadlineOk now r) w in
+    rw on
+    (and-intro
+    (and-intro (and-intro al (below-ok a near)) (and-right (aligned (r .uaddr) && ltb (r .uaddr) bytesPerProcess) (not (eqb (r .bitset) 0)) m))
+    (and-right (aligned (r .uaddr) && ltb (r .uaddr) bytesPerProcess && not (eqb (r .bitset) 0)) (deadlineOk now r) w))
+
+pub sound-move : (a : ℕ) (ts : List ℕ) (s : State) → aligned a ≡ true → outside a ≡ false
+    → ((t : ℕ) → occurs t ts ≤ occurs t (arrivals s)) → Sound s → Sound (moveSleeps a ts s)
+unfolding moveSleeps altered
+sound-move a ts s al near sub g =
+    sound-altered (movedTo a) ts (without ts (arrivals s) ++ ts) s (g .records)
+    (λ t e. moved-ok a (s .clock) (threadOf s t) al near (g .kept t) (on t e))
+    (λ t e. g .kept t)
+    (λ t. altered-record (movedTo a) ts (without ts (arrivals s) ++ ts) s (g .records) (λ r. occurs t (without ts (arrivals s) ++ ts) ≡ bit (r .waiting)) t
+    (λ e h. absurd (let k = waiting-below s g t (on t e) in omega arith))
+    (λ e. occurs-append t (without ts (arrivals s)) ts
+    ∙ omega (arith, occurs-taken-out t ts (arrivals s) e, elem-occurs t ts e, sub t, g .exact t, bit-le (threadOf s t .waiting)))
+    (λ e. occurs-append t (without ts (arrivals s)) ts
+    ∙ omega (arith, occurs-without t ts (arrivals s) e, absent-occurs t ts e, g .exact t)))
+  where
+    on : (t : ℕ) → elem t ts ≡ true → threadOf s t .waiting ≡ true
+    on t e = bit-true (threadOf s t .waiting) (omega (arith, elem-occurs t ts e, sub t, g .exact t))
+
+-- a thread that falls asleep
+pub sound-sleep : (f : Thread → Thread) (t : ℕ) (s : State) → t < threads → threadOf s t .waiting ≡ false
+    → f (threadOf s t) .waiting ≡ true → recordOk (s .clock) (f (threadOf s t)) ≡ true → Sound s → Sound (fallAsleep f t s)
+unfolding fallAsleep altered
+sound-sleep f t s low off on ok g =
+    sound-altered f (t ∷ []) (arrivals s ++ (t ∷ [])) s (g .records)
+    (λ u e. rw (it u e) ok)
+    (λ u e. g .kept u)
+    (λ u. altered-record f (t ∷ []) (arrivals s ++ (t ∷ [])) s (g .records) (λ r. occurs u (arrivals s ++ (t ∷ [])) ≡ bit (r .waiting)) u
+    (λ e h. absurd (let k = it u e in omega arith))
+    (λ e. rw (it u e) (occurs-append t (arrivals s) (t ∷ []) ∙ rw on (omega (arith, g .exact t, ap bit off, ap bit (eqb-refl t)))))
+    (λ e. occurs-append u (arrivals s) (t ∷ []) ∙ omega (arith, g .exact u, ap bit (or-left (eqb u t) false e))))
+  where
+    it : (u : ℕ) → elem u (t ∷ []) ≡ true → u ≡ t
+    it u e = eqb-true u t (cases (eqb u t) (λ k. k) (λ k. clash (elem u (t ∷ [])) e (rw k)))
+
+-- what the clock does not end keeps its rule at the new time
+late-ok : (now then : ℕ) (r : Thread) → recordOk then r ≡ true → expired now r ≡ false → recordOk now r ≡ true
+unfolding recordOk
+late-ok now then r ok x = cases (r .waiting)
+    (λ on.
+    let w = waiting-ok then r ok on in
+    let front = aligned (r .uaddr) && ltb (r .uaddr) bytesPerProcess && not (eqb (r .bitset) 0) in
+    rw on (and-intro (and-left front (deadlineOk then r) w) (ahead (r .timed) refl on (and-right front (deadlineOk then r) w))))
+    (λ off. rw off (rw off at ok))
+  where
+    ahead : (b : Bool) → r .timed ≡ b → r .waiting ≡ true → deadlineOk then r ≡ true → deadlineOk now r ≡ true
+    ahead true e on d = rw e (lt-ltb now (r .deadline) (leb-false (r .deadline) now (cc)))
+    ahead false e on d = rw e (rw e at d)
+
+pub sound-clock : (now : ℕ) (s : State) → Sound s → Sound (endSleeps TimedOut (expiredSleepers now s) (withClock now s))
+unfolding expiredSleepers
+sound-clock now s g = sound-end TimedOut (expiredSleepers now s) (withClock now s) (g .records)
+    (λ t e. late-ok now (s .clock) (threadOf s t) (g .kept t) (cases (expired now (threadOf s t))
+    (λ x. absurd (omega (
+      arith,
+      occurs-filter (λ u. expired now (threadOf s u)) t (arrivals s) x,
+      absent-occurs t (filter (λ u. expired now (threadOf s u)) (arrivals s)) e,
+      g .exact t,
+      ap bit (and-left (threadOf s t .waiting) (threadOf s t .timed) (and-left (threadOf s t .waiting && threadOf s t .timed) (leb (threadOf s t .deadline) now) x)),
+    )))
+    (λ x. x)))
+    (g .exact)

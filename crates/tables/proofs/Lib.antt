@@ -1,0 +1,5 @@
+pub mod Changes
+pub mod Sound
+pub mod Kept
+pub mod Stored
+pub mod Flags

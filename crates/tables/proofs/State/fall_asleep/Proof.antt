@@ -1,0 +1,61 @@
+use borrow.Author.Needs.{needs}
+use Rattle.tables.proofs.Sound.{tables-sound}
+use Rattle.tables.proofs.Stored.{falls-asleep}
+use Rattle.tables.proofs.State.fall_asleep.Statement.{statement}
+use Rattle.tables.proofs.State.fall_asleep.Tie as tie
+use Rattle.tables.proofs.State.fall_asleep.Reads as reads
+use Rattle.tables.proofs.State.fall_asleep.Lts as lts
+use Rattle.tables.proofs.Thread.asleep_at.Reads as asleep-at-reads
+
+-- src/lib.rt:183:19
+mul-old : tie.Need-mul-old
+mul-old c = search needs
+
+-- src/lib.rt:183:19
+element-copy-out-old : tie.Need-element-copy-out-old
+element-copy-out-old c = search needs
+
+-- src/lib.rt:184:13
+asleep-at-requires : tie.Need-asleep-at-requires
+asleep-at-requires c κs = search needs
+
+-- src/lib.rt:185:9
+mul-new : tie.Need-mul-new
+mul-new c = search needs
+
+-- src/lib.rt:185:9
+element-set-from-new : tie.Need-element-set-from-new
+element-set-from-new c = search needs
+
+-- src/lib.rt:187:24
+cast-self : tie.Need-cast-self
+cast-self c = search needs
+
+-- src/lib.rt:187:9
+element-write-self : tie.Need-element-write-self
+element-write-self c = search needs
+
+-- src/lib.rt:188:22
+add-self : tie.Need-add-self
+add-self c = search needs
+
+-- src/lib.rt:179:5
+returns : tie.Need-returns
+returns c =
+    let g = c .before .before in
+    falls-asleep (g .args .t1) (tables-sound (g .args .t1) (g .pre .0)) (g .args .t) (g .args .uaddr) (g .args .bitset) (g .args .timed) (g .args .deadline)
+    (c .asleep-at .result) (g .pre .1 .0) (g .pre .1 .1) (c .asleep-at .ensures)
+
+pub fall-asleep-spec : {M : Type 1} → statement M
+fall-asleep-spec =
+    tie.close
+    (tie.spec
+    mul-old
+    element-copy-out-old
+    asleep-at-requires
+    mul-new
+    element-set-from-new
+    cast-self
+    element-write-self
+    add-self
+    returns)

@@ -1,0 +1,164 @@
+-- "The tables": what the kernel keeps, the rules that sound tables keep, and the changes that events make to them.
+use mathlib.Core.Bool.{Bool, true, false, not, cond, _&&_, Bool·beq}
+use mathlib.Core.List.{List, [], _∷_, _++_}
+use Prim.Native.Nat.{ℕ, _+_, _*_, _/_, _%_}
+use lib.ListN.{length, take, drop, getD, set, replicate}
+use lib.Dec.{eqb, leb, ltb}
+use lib.Bits.{bitAnd}
+use Rattle.lists.specs.Lists.{filter, all, update, padTo, elem, without, distinct, everyBelow}
+use Rattle.tables.specs.declared.State.{State}
+use Rattle.tables.specs.declared.Thread.{Thread}
+use Rattle.tables.specs.declared.LastAnswer.{LastAnswer}
+use Rattle.tables.specs.declared.LastAnswer.the-variants.{NoneYet}
+use Rattle.tables.specs.Sizes.{threads, threadsPerProcess, wordsPerProcess, wordBytes, bytesPerProcess, noEntry}
+
+-- The tables and the lent words, which the kernel is handed with each event.
+pub record World : Type 0 where
+  pub state : State
+  pub words : List ℕ
+
+-- "thread (p, i) has number 8p + i"
+abbrev pub threadNumber : ℕ → ℕ → ℕ
+threadNumber p i = threadsPerProcess * p + i
+
+abbrev pub processOf : ℕ → ℕ
+processOf t = t / threadsPerProcess
+
+-- "the word at address a of process p is word 1024p + a/4 of the lent memory"
+abbrev pub wordNumber : ℕ → ℕ → ℕ
+wordNumber p a = wordsPerProcess * p + a / wordBytes
+
+abbrev pub wordAt : World → ℕ → ℕ → ℕ
+wordAt w p a = getD (w .words) (wordNumber p a) 0
+
+-- "A running thread has zeros for address, mask and deadline, and no deadline."
+abbrev pub running : LastAnswer → Thread
+running a = record { waiting = false; uaddr = 0; bitset = 0; timed = false; deadline = 0; last = a }
+
+abbrev pub threadOf : State → ℕ → Thread
+threadOf s t = getD (s .threads) t (running NoneYet)
+
+-- the arrival list: the first count entries
+abbrev pub arrivals : State → List ℕ
+arrivals s = take (s .count) (s .list)
+
+abbrev pub sleepsAt : ℕ → ℕ → State → ℕ → Bool
+sleepsAt p a s t = eqb (processOf t) p && (threadOf s t .waiting && eqb (threadOf s t .uaddr) a)
+
+-- "The queue of a word is the arrival list's threads that wait there, in list order."
+unfoldable pub queue : ℕ → ℕ → State → List ℕ
+queue p a s = filter (sleepsAt p a s) (arrivals s)
+
+-- a sleeper "whose deadline is at or below it"
+abbrev pub expired : ℕ → Thread → Bool
+expired now r = r .waiting && r .timed && leb (r .deadline) now
+
+-- "every sleeper whose deadline is at or below it ends with -110"
+unfoldable pub expiredSleepers : ℕ → State → List ℕ
+expiredSleepers now s = filter (λ t. expired now (threadOf s t)) (arrivals s)
+
+abbrev pub sharesBit : ℕ → Thread → Bool
+sharesBit m r = not (eqb (bitAnd (r .bitset) m) 0)
+
+-- The table rules.
+
+abbrev pub aligned : ℕ → Bool
+aligned a = eqb (a % wordBytes) 0
+
+-- no word of a process has this address
+abbrev pub outside : ℕ → Bool
+outside a = leb bytesPerProcess a
+
+-- "a running record has the zeros named above"
+abbrev pub runningOk : Thread → Bool
+runningOk r = eqb (r .uaddr) 0 && eqb (r .bitset) 0 && not (r .timed) && eqb (r .deadline) 0
+
+-- "either no deadline with 0 stored or a deadline above the clock"
+abbrev pub deadlineOk : ℕ → Thread → Bool
+deadlineOk now r = cond (r .timed) (ltb now (r .deadline)) (eqb (r .deadline) 0)
+
+-- "a waiting record has an aligned address below 4096, a mask that is not 0, and .."
+abbrev pub waitingOk : ℕ → Thread → Bool
+waitingOk now r = aligned (r .uaddr) && ltb (r .uaddr) bytesPerProcess && not (eqb (r .bitset) 0) && deadlineOk now r
+
+-- A record by its rule. "the last answer is one of the four": its type holds no other.
+unfoldable pub recordOk : ℕ → Thread → Bool
+recordOk now r = cond (r .waiting) (waitingOk now r) (runningOk r)
+
+-- "64 thread records and one arrival list with a count"
+abbrev pub sizesOk : State → Bool
+sizesOk s = eqb (length (s .threads)) threads && eqb (length (s .list)) threads
+
+-- "count at most 64"
+abbrev pub countOk : State → Bool
+countOk s = leb (s .count) threads
+
+-- "the first count entries are thread numbers"
+abbrev pub numbersOk : State → Bool
+numbersOk s = all (λ t. ltb t threads) (arrivals s)
+
+-- "and are exactly the waiting threads"
+abbrev pub exactOk : State → Bool
+exactOk s = everyBelow threads (λ t. Bool·beq (elem t (arrivals s)) (threadOf s t .waiting))
+
+-- "later entries are 255"
+abbrev pub tailOk : State → Bool
+tailOk s = all (λ e. eqb e noEntry) (drop (s .count) (s .list))
+
+abbrev pub recordsOk : State → Bool
+recordsOk s = all (recordOk (s .clock)) (s .threads)
+
+-- "Table rules"; the entries are "all different".
+unfoldable pub tablesOk : State → Bool
+tablesOk s =
+    sizesOk s && countOk s && numbersOk s && distinct (arrivals s) && exactOk s && tailOk s && recordsOk s
+
+-- "Fresh: clock 0, all running, last answers 1, list empty."
+unfoldable pub fresh : State
+fresh = record { clock = 0; threads = replicate threads (running NoneYet); list = replicate threads noEntry; count = 0 }
+
+-- The changes.
+
+abbrev pub withThreads : List Thread → State → State
+withThreads ts s = record { clock = s .clock; threads = ts; list = s .list; count = s .count }
+
+-- the arrival list as it is stored: its entries, then 255
+abbrev pub withArrivals : List ℕ → State → State
+withArrivals l s = record { clock = s .clock; threads = s .threads; list = padTo threads noEntry l; count = length l }
+
+abbrev pub withClock : ℕ → State → State
+withClock now s = record { clock = now; threads = s .threads; list = s .list; count = s .count }
+
+-- the records of the threads ts changed by f, the others as they were
+unfoldable pub change : (Thread → Thread) → List ℕ → List Thread → List Thread
+change f ts rs = update (λ t r. cond (elem t ts) (f r) r) rs
+
+abbrev pub ended : LastAnswer → Thread → Thread
+ended a r = running a
+
+-- "A released thread leaves the list, runs, and has last answer 0. A sleeper ended by the clock or an interrupt leaves
+-- the list and runs likewise, with its own last answer. Whatever ends or moves, the other entries keep their order."
+unfoldable pub endSleeps : LastAnswer → List ℕ → State → State
+endSleeps a ts s = withArrivals (without ts (arrivals s)) (withThreads (change (ended a) ts (s .threads)) s)
+
+abbrev pub movedTo : ℕ → Thread → Thread
+movedTo a r = record { waiting = r .waiting; uaddr = a; bitset = r .bitset; timed = r .timed; deadline = r .deadline; last = r .last }
+
+-- "move to uaddr2, joining the end of the arrival list in their order, with mask and deadline kept"
+unfoldable pub moveSleeps : ℕ → List ℕ → State → State
+moveSleeps a ts s = withArrivals (without ts (arrivals s) ++ ts) (withThreads (change (movedTo a) ts (s .threads)) s)
+
+-- "The last answer is .." kept while asleep: a sleep has no answer before it ends.
+abbrev pub asleepAt : ℕ → ℕ → Bool → ℕ → Thread → Thread
+asleepAt a m timed due r = record { waiting = true; uaddr = a; bitset = m; timed = timed; deadline = cond timed due 0; last = r .last }
+
+-- "The caller joins the end of the arrival list."
+unfoldable pub fallAsleep : (Thread → Thread) → ℕ → State → State
+fallAsleep f t s = withArrivals (arrivals s ++ (t ∷ [])) (withThreads (change f (t ∷ []) (s .threads)) s)
+
+-- one word of a process written
+unfoldable pub writeWord : ℕ → ℕ → ℕ → World → World
+writeWord p a v w = record { state = w .state; words = set (w .words) (wordNumber p a) v }
+
+abbrev pub withState : State → World → World
+withState s w = record { state = s; words = w .words }

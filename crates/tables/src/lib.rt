@@ -1,0 +1,236 @@
+// Tables: what the kernel keeps, a clock, a record for each thread and the arrival list with its count; their rules and changes. It stands on lists.
+ghost use mathlib.Core.Path.{_≡_};
+ghost use mathlib.Core.Bool.{true, false, _&&_, _||_};
+ghost use Prim.Native.Nat.{ℕ, _+_, _≤_, _<_};
+ghost use lib.ListN.{take};
+ghost use lib.Dec.{eqb};
+ghost use Rattle.tables.specs.Sizes.{processes, threads};
+ghost use Rattle.tables.specs.Tables.{running, movedTo, asleepAt, expired, sharesBit, sleepsAt, threadOf, fresh, change, withThreads, fallAsleep, tablesOk};
+ghost use Rattle.tables.specs.Steps.{changedBy, Numbers, Flags, flagged, endFirst, moveFirst};
+
+pub mod check;
+pub mod queue;
+
+pub const PROCESSES: usize = 8;
+
+pub const THREADS_PER_PROCESS: usize = 8;
+
+pub const THREADS: usize = PROCESSES * THREADS_PER_PROCESS;
+
+pub const WORDS_PER_PROCESS: usize = 1024;
+
+pub const WORDS: usize = PROCESSES * WORDS_PER_PROCESS;
+// The entry of the arrival list that names no thread.
+pub const NO_ENTRY: u8 = 255;
+
+// How a thread's last ended sleep was answered; no other value can be held.
+pub enum LastAnswer {
+    NoneYet,
+    Woken,
+    TimedOut,
+    Interrupted,
+}
+
+pub struct Thread {
+    pub waiting: bool,
+    pub uaddr: u32,
+    pub bitset: u32,
+    pub timed: bool,
+    pub deadline: u64,
+    pub last: LastAnswer,
+}
+
+pub struct State {
+    pub clock: u64,
+    pub threads: [Thread; THREADS],
+    pub list: [u8; THREADS],
+    pub count: usize,
+}
+
+// What happens to a sleeper: its sleep ends with an answer, or it moves to another address.
+pub enum Change {
+    End(LastAnswer),
+    MoveTo(u32),
+}
+
+impl Thread {
+    pub fn running(last: LastAnswer) -> Self
+        ensures { λ r. ⌜ r ≡ running last ⌝ }
+    {
+        Self {
+            waiting: false,
+            uaddr: 0,
+            bitset: 0,
+            timed: false,
+            deadline: 0,
+            last: last,
+        }
+    }
+
+    pub fn moved_to(mut self, uaddr: u32) -> Self
+        ensures { λ r. ⌜ r ≡ movedTo uaddr self ⌝ }
+    {
+        self.uaddr = uaddr;
+        self
+    }
+
+    pub fn changed(self, how: Change) -> Self
+        ensures { λ r. ⌜ r ≡ changedBy how self ⌝ }
+    {
+        match how {
+            Change::End(last) => Thread::running(last),
+            Change::MoveTo(uaddr) => self.moved_to(uaddr),
+        }
+    }
+
+    // The record of a sleeper; the answer of its last ended sleep stays.
+    pub fn asleep_at(self, uaddr: u32, bitset: u32, timed: bool, deadline: u64) -> Self
+        ensures { λ r. ⌜ r ≡ asleepAt uaddr bitset timed deadline self ⌝ }
+    {
+        let last = self.last;
+        Self {
+            waiting: true,
+            uaddr: uaddr,
+            bitset: bitset,
+            timed: timed,
+            deadline: if timed { deadline } else { 0 },
+            last: last,
+        }
+    }
+
+    pub fn has_expired(self, now: u64) -> bool
+        ensures { λ r. ⌜ r ≡ expired now self ⌝ }
+    {
+        self.waiting & self.timed & (self.deadline <= now)
+    }
+
+    // A sleeper at the address whom a wake may take: any, or one whose mask shares a bit.
+    pub fn is_hit(self, uaddr: u32, any: bool, bitset: u32) -> bool
+        ensures { λ r. ⌜ r ≡ ((any || sharesBit bitset self) && (self .waiting && eqb (self .uaddr) uaddr)) ⌝ }
+    {
+        let shares = self.bitset & bitset != 0;
+        (any | shares) & (self.waiting & (self.uaddr == uaddr))
+    }
+}
+
+// Tables after a change, and how many sleepers it took.
+pub struct Taken {
+    pub state: State,
+    pub n: u32,
+}
+
+impl State {
+    pub fn fresh() -> Self
+        ensures { λ r. ⌜ r ≡ fresh ⌝ }
+    {
+        let t = Thread::running(LastAnswer::NoneYet);
+        Self {
+            clock: 0,
+            threads: [t; THREADS],
+            list: [NO_ENTRY; THREADS],
+            count: 0,
+        }
+    }
+
+    // The records of the first n threads of ts, changed.
+    fn changed(mut self, ts: [u8; THREADS], n: usize, how: Change) -> Self
+        requires { ⌜ Numbers ts n ⌝ }
+        ensures { λ r. ⌜ r ≡ withThreads (change (changedBy how) (take n ts) (self .threads)) self ⌝ }
+    {
+        let mut i: usize = 0;
+        while i < n {
+            let e = ts[i];
+            let x = queue::index_of(e);
+            let t = self.threads[x];
+            let u = t.changed(how);
+            self.threads[x] = u;
+            i += 1;
+        }
+        self
+    }
+
+    // The first cap sleepers whose flag is set end their sleep with the answer. The kernel calls it on tables that keep the rules.
+    pub fn end_first(self, flags: [bool; THREADS], cap: usize, last: LastAnswer) -> Taken
+        requires { ⌜ tablesOk self ≡ true ⌝ }
+        ensures { λ r. ⌜ r ≡ endFirst last (flagged flags) cap self ⌝ }
+    {
+        let list = self.list;
+        let parts = queue::split(list, self.count, flags, cap);
+        let n = parts.n as u32;
+        let taken = parts.taken;
+        let mut s = self.changed(taken, parts.n, Change::End(last));
+        let kept = parts.kept;
+        s.list = kept;
+        s.count = parts.count;
+        Taken { state: s, n: n }
+    }
+
+    // The first cap sleepers whose flag is set move to the address, and to the end of the list. The kernel calls it as it does end_first.
+    pub fn move_first(self, flags: [bool; THREADS], cap: usize, uaddr: u32) -> Taken
+        requires { ⌜ tablesOk self ≡ true ⌝ }
+        ensures { λ r. ⌜ r ≡ moveFirst uaddr (flagged flags) cap self ⌝ }
+    {
+        let list = self.list;
+        let parts = queue::split(list, self.count, flags, cap);
+        let n = parts.n as u32;
+        let taken = parts.taken;
+        let mut s = self.changed(taken, parts.n, Change::MoveTo(uaddr));
+        let kept = parts.kept;
+        let all = queue::joined(kept, parts.count, taken, parts.n);
+        s.list = all;
+        Taken { state: s, n: n }
+    }
+
+    // A running thread sleeps, and joins the end of the list. The kernel calls it where the list has room.
+    pub fn fall_asleep(
+        mut self,
+        t: usize,
+        uaddr: u32,
+        bitset: u32,
+        timed: bool,
+        deadline: u64,
+    ) -> Self
+        requires { ⌜ (tablesOk self ≡ true) × ((t < threads) × (self .count < threads)) ⌝ }
+        ensures { λ r. ⌜ r ≡ fallAsleep (asleepAt uaddr bitset timed deadline) t self ⌝ }
+    {
+        let old = self.threads[t];
+        let new = old.asleep_at(uaddr, bitset, timed, deadline);
+        self.threads[t] = new;
+        let n = self.count;
+        self.list[n] = t as u8;
+        self.count = n + 1;
+        self
+    }
+
+    // Who sleeps at the word and may be taken. The kernel calls it for a process that exists.
+    pub fn hits(self, process: usize, uaddr: u32, any: bool, bitset: u32) -> [bool; THREADS]
+        requires { ⌜ process < processes ⌝ }
+        ensures { λ r. ⌜ Flags r (λ t. (any || sharesBit bitset (threadOf self t)) && sleepsAt process uaddr self t) ⌝ }
+    {
+        let mut flags = [false; THREADS];
+        let base = THREADS_PER_PROCESS * process;
+        let mut i: usize = 0;
+        while i < THREADS_PER_PROCESS {
+            let t = self.threads[base + i];
+            let hit = t.is_hit(uaddr, any, bitset);
+            flags[base + i] = hit;
+            i += 1;
+        }
+        flags
+    }
+
+    // Whose deadline has come.
+    pub fn expired(self, now: u64) -> [bool; THREADS]
+        ensures { λ r. ⌜ Flags r (λ t. expired now (threadOf self t)) ⌝ }
+    {
+        let mut flags = [false; THREADS];
+        let mut i: usize = 0;
+        while i < THREADS {
+            let t = self.threads[i];
+            let hit = t.has_expired(now);
+            flags[i] = hit;
+            i += 1;
+        }
+        flags
+    }
+}

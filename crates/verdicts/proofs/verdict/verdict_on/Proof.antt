@@ -1,0 +1,102 @@
+use borrow.Author.Needs.{needs}
+use Rattle.rules.specs.Calls.{callRows}
+use Rattle.verdicts.proofs.verdict.verdict_on.Statement.{statement}
+use Rattle.verdicts.proofs.verdict.verdict_on.Tie as tie
+
+uses-by-requires : tie.Need-uses-by-requires
+uses-by-requires c κs = search needs
+
+undefined-op-requires : tie.Need-undefined-op-requires
+undefined-op-requires c κs = search needs
+
+row-requires : tie.Need-row-requires
+row-requires c κs = search needs
+
+late-requires : tie.Need-late-requires
+late-requires c κs = search needs
+
+row-requires-2 : tie.Need-row-requires-2
+row-requires-2 c κs = search needs
+
+differs-requires : tie.Need-differs-requires
+differs-requires c κs = search needs
+
+row-requires-3 : tie.Need-row-requires-3
+row-requires-3 c κs = search needs
+
+row-requires-4 : tie.Need-row-requires-4
+row-requires-4 c κs = search needs
+
+bad-address-requires : tie.Need-bad-address-requires
+bad-address-requires c κs = search needs
+
+row-requires-5 : tie.Need-row-requires-5
+row-requires-5 c κs = search needs
+
+bad-argument-requires : tie.Need-bad-argument-requires
+bad-argument-requires c κs = search needs
+
+row-requires-6 : tie.Need-row-requires-6
+row-requires-6 c κs = search needs
+
+not-implemented-requires : tie.Need-not-implemented-requires
+not-implemented-requires c κs = search needs
+
+row-requires-7 : tie.Need-row-requires-7
+row-requires-7 c κs = search needs
+
+row-requires-8 : tie.Need-row-requires-8
+row-requires-8 c κs = search needs
+
+no-thread-requires : tie.Need-no-thread-requires
+no-thread-requires c κs = search needs
+
+row-requires-9 : tie.Need-row-requires-9
+row-requires-9 c κs = search needs
+
+returns : tie.Need-returns
+unfolding callRows
+returns c =
+    let k = c .before .before .before .before .before .before .before .before .before in
+    rw (
+      c .row9 .ensures,
+      c .before .no-thread .ensures,
+      c .before .before .row8 .ensures,
+      c .before .before .before .row7 .ensures,
+      c .before .before .before .before .not-implemented .ensures,
+      c .before .before .before .before .before .row6 .ensures,
+      c .before .before .before .before .before .before .bad-argument .ensures,
+      c .before .before .before .before .before .before .before .row5 .ensures,
+      c .before .before .before .before .before .before .before .before .bad-address .ensures,
+      k .row4 .ensures,
+      k .before .before .before .before .before .before .before .before .before .uses-by .ensures,
+      k .before .before .before .before .before .before .before .before .undefined-op .ensures,
+      k .before .before .before .row3 .ensures,
+      k .before .before .before .before .differs .ensures,
+      k .before .before .before .before .before .row2 .ensures,
+      k .before .before .before .before .before .before .late .ensures,
+      k .before .before .before .before .before .before .before .row .ensures,
+    )
+
+pub verdict-on-spec : {M : Type 1} → statement M
+verdict-on-spec =
+    tie.close
+    (tie.spec
+    uses-by-requires
+    undefined-op-requires
+    row-requires
+    late-requires
+    row-requires-2
+    differs-requires
+    row-requires-3
+    row-requires-4
+    bad-address-requires
+    row-requires-5
+    bad-argument-requires
+    row-requires-6
+    not-implemented-requires
+    row-requires-7
+    row-requires-8
+    no-thread-requires
+    row-requires-9
+    returns)

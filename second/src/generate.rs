@@ -1,0 +1,8 @@
+//! Generators of histories, tables, logs and scripts. All of them are fixed by
+//! their seed.
+
+pub mod edges;
+pub mod events;
+pub mod logs;
+pub mod random;
+pub mod tables;

@@ -1,0 +1,232 @@
+//! Histories of events, biased to the interesting: few addresses, small values
+//! and caps, masks of few bits, deadlines near the clock, edge numbers. The
+//! tables and words are looked at, so that many waits truly sleep.
+
+use crate::model::{
+    Call, Event, State, CMP_REQUEUE, FIRST_BAD_ADDRESS, PROCESSES, REQUEUE, THREADS_PER_PROCESS,
+    WAIT, WAIT_BITSET, WAKE, WAKE_BITSET, WAKE_OP, WORDS_PER_PROCESS,
+};
+use crate::rng::Rng;
+
+pub const EDGE_U32: &[u32] =
+    &[0, 1, 2, 3, 255, 2147483647, 2147483648, 2147483649, u32::MAX - 1, u32::MAX];
+pub const EDGE_U64: &[u64] = &[
+    0,
+    1,
+    (1 << 31) - 1,
+    1 << 31,
+    (1 << 32) - 1,
+    1 << 32,
+    (1 << 32) + 1,
+    (1 << 32) + (1 << 31),
+    (1 << 63) - 1,
+    1 << 63,
+    u64::MAX - 1,
+    u64::MAX,
+];
+pub const GOOD_ADDRESSES: &[u32] = &[0, 4, 8, 4088, 4092];
+pub const EDGE_ADDRESSES: &[u32] = &[
+    0,
+    4,
+    8,
+    4088,
+    4092,
+    1,
+    2,
+    3,
+    4093,
+    4094,
+    4095,
+    4096,
+    4097,
+    4100,
+    8192,
+    u32::MAX - 3,
+    u32::MAX,
+];
+pub const MASKS: &[u32] = &[1, 2, 3, 4, 6, 1 << 31, u32::MAX];
+pub const COMMANDS: &[u32] = &[WAIT, WAIT_BITSET, WAKE, WAKE_BITSET, REQUEUE, CMP_REQUEUE, WAKE_OP];
+
+/// The next event of a history that has come to these tables and words.
+pub fn next(rng: &mut Rng, state: &State, words: &[u32]) -> Event {
+    match rng.below(100) {
+        0..=71 => Event::Call(call(rng, state, words)),
+        72..=79 => Event::Store { process: process(rng), address: address(rng), value: value(rng) },
+        80..=86 => Event::Clock { time: near_clock(rng, state.clock) },
+        87..=92 => Event::Interrupt { process: process(rng), index: index(rng) },
+        _ => Event::Query { process: process(rng) },
+    }
+}
+
+/// A few processes meet often, all others now and then.
+pub fn process(rng: &mut Rng) -> u8 {
+    match rng.below(100) {
+        0..=79 => rng.pick(&[0, 0, 1, 7]),
+        80..=96 => rng.below(8) as u8,
+        _ => rng.pick(&[8, 9, 255]),
+    }
+}
+
+fn index(rng: &mut Rng) -> u8 {
+    if rng.percent(97) {
+        rng.below(8) as u8
+    } else {
+        rng.pick(&[8, 9, 255])
+    }
+}
+
+fn address(rng: &mut Rng) -> u32 {
+    match rng.below(100) {
+        0..=84 => rng.pick(&[0, 4, 8]),
+        85..=93 => rng.pick(GOOD_ADDRESSES),
+        _ => rng.pick(EDGE_ADDRESSES),
+    }
+}
+
+fn value(rng: &mut Rng) -> u32 {
+    match rng.below(100) {
+        0..=84 => rng.below(4) as u32,
+        85..=96 => rng.pick(EDGE_U32),
+        _ => rng.u32(),
+    }
+}
+
+fn cap(rng: &mut Rng) -> u32 {
+    if rng.percent(85) {
+        rng.below(5) as u32
+    } else {
+        rng.pick(EDGE_U32)
+    }
+}
+
+fn mask(rng: &mut Rng) -> u32 {
+    match rng.below(100) {
+        0..=89 => rng.pick(MASKS),
+        90..=93 => 0,
+        _ => rng.u32(),
+    }
+}
+
+/// A time a little before or after the clock, or an edge.
+fn near_clock(rng: &mut Rng, clock: u64) -> u64 {
+    match rng.below(100) {
+        0..=9 => clock.saturating_sub(rng.below(3)),
+        10..=98 => clock.saturating_add(rng.below(12)),
+        // Rare, since the clock can't come back from an edge.
+        _ => rng.pick(EDGE_U64),
+    }
+}
+
+/// A command number with its option bits, mostly a good one.
+fn op(rng: &mut Rng) -> u32 {
+    let command = match rng.below(100) {
+        0..=29 => WAIT,
+        30..=51 => WAIT_BITSET,
+        52..=97 => rng.pick(COMMANDS),
+        _ => rng.below(16) as u32,
+    };
+    let bits = match rng.below(100) {
+        0..=64 => 0,
+        65..=95 => 128,
+        96..=97 => rng.pick(&[256, 512, 384, 640, 768, 896]),
+        _ => 1 << rng.below(32),
+    };
+    command | bits
+}
+
+fn flag(rng: &mut Rng) -> u8 {
+    if rng.percent(95) {
+        rng.below(2) as u8
+    } else {
+        rng.pick(&[2, 255])
+    }
+}
+
+/// A caller that can call: a running thread, if a few tries find one.
+fn caller(rng: &mut Rng, state: &State) -> (u8, u8) {
+    let mut who = (process(rng), index(rng));
+    for attempt in 0..6 {
+        let number = THREADS_PER_PROCESS * who.0 as usize + who.1 as usize;
+        let inside = (who.0 as usize) < PROCESSES && (who.1 as usize) < THREADS_PER_PROCESS;
+        if !inside || !state.threads[number].waiting {
+            return who;
+        }
+        // Others of the same process first, then anyone.
+        let process = if attempt < 3 { who.0 } else { rng.below(8) as u8 };
+        who = (process, rng.below(8) as u8);
+    }
+    who
+}
+
+/// The word at an address, where there is one: what a wait should expect.
+fn word_at(words: &[u32], process: u8, address: u32) -> u32 {
+    let number = WORDS_PER_PROCESS * process as usize + (address / 4) as usize;
+    if address < FIRST_BAD_ADDRESS {
+        words.get(number).copied().unwrap_or(0)
+    } else {
+        0
+    }
+}
+
+/// A call. Arguments that its command doesn't use are mostly junk, to show
+/// that nobody looks at them.
+pub fn call(rng: &mut Rng, state: &State, words: &[u32]) -> Call {
+    let (process, index) = caller(rng, state);
+    let mut call = Call {
+        process,
+        index,
+        op: op(rng),
+        uaddr: address(rng),
+        val: value(rng),
+        flag: flag(rng),
+        timeout: rng.pick(EDGE_U64),
+        uaddr2: rng.pick(EDGE_ADDRESSES),
+        val3: value(rng),
+    };
+    let word = word_at(words, process, call.uaddr);
+    match call.op & 127 {
+        WAIT | WAIT_BITSET => fit_wait(rng, state.clock, word, &mut call),
+        WAKE | WAKE_BITSET => {
+            call.val = cap(rng);
+            call.val3 = mask(rng);
+        }
+        REQUEUE | CMP_REQUEUE | WAKE_OP => fit_second(rng, word, &mut call),
+        _ => {}
+    }
+    call
+}
+
+fn fit_wait(rng: &mut Rng, clock: u64, word: u32, call: &mut Call) {
+    if rng.percent(88) {
+        call.val = word;
+    }
+    call.val3 = mask(rng);
+    if rng.percent(90) {
+        call.timeout = if call.op & 127 == WAIT { rng.below(12) } else { near_clock(rng, clock) };
+    }
+}
+
+fn fit_second(rng: &mut Rng, word: u32, call: &mut Call) {
+    call.val = if rng.percent(90) { rng.below(3) as u32 } else { cap(rng) };
+    call.uaddr2 = address(rng);
+    call.timeout = if rng.percent(90) { cap(rng) as u64 } else { rng.pick(EDGE_U64) };
+    if rng.percent(20) {
+        // Only the low 32 bits are the second cap.
+        call.timeout = call.timeout % (1 << 32) + (rng.below(4) << 32);
+    }
+    if call.op & 127 == WAKE_OP {
+        call.val3 = operation(rng);
+    } else if rng.percent(85) {
+        call.val3 = word;
+    }
+}
+
+/// WAKE_OP's val3: mostly defined operations, small and edge operands.
+fn operation(rng: &mut Rng) -> u32 {
+    let action = if rng.percent(92) { rng.below(5) } else { rng.below(8) } as u32;
+    let shift = rng.below(2) as u32 * 8;
+    let cmp = if rng.percent(92) { rng.below(6) } else { rng.below(16) } as u32;
+    let oparg = rng.pick(&[0, 1, 2, 3, 31, 32, 33, 2047, 2048, 4095]);
+    let cmparg = rng.pick(&[0, 1, 2, 3, 2048, 4095]);
+    (action | shift) << 28 | cmp << 24 | oparg << 12 | cmparg
+}

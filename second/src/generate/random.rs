@@ -1,0 +1,115 @@
+//! Random scripts: events over fresh, sound and broken tables, and over too
+//! short or too long a memory, with dumps and word prints now and then.
+
+use std::io::{self, Write};
+
+use super::{events, tables};
+use crate::model::WORDS;
+use crate::rng::Rng;
+use crate::script::{self, Machine, Record, MEMORY};
+
+/// A script in the making. Each record is also applied, so that the next event
+/// can look at the tables that the script will have come to.
+struct Maker<'a, W: Write> {
+    rng: Rng,
+    machine: Machine,
+    script: Vec<u8>,
+    out: &'a mut W,
+}
+
+impl<W: Write> Maker<'_, W> {
+    fn add(&mut self, record: Record) -> io::Result<()> {
+        script::write(&record, &mut self.script);
+        self.machine.apply(&record, &mut io::sink())?;
+        if self.script.len() > 1 << 16 {
+            self.out.write_all(&self.script)?;
+            self.script.clear();
+        }
+        Ok(())
+    }
+
+    fn event(&mut self) -> io::Result<()> {
+        let words = &self.machine.memory[..WORDS];
+        let event = events::next(&mut self.rng, &self.machine.state, words);
+        self.add(Record::Event(event))
+    }
+
+    /// What a stretch of events starts from. Gives how long it may be: on
+    /// broken tables and wrong memories every answer is alike.
+    fn start(&mut self) -> io::Result<u64> {
+        match self.rng.below(100) {
+            0..=39 => {
+                self.add(Record::Fresh)?;
+                Ok(300)
+            }
+            40..=69 => {
+                let state = tables::sound(&mut self.rng);
+                self.poke_all(&tables::pokes(&state))?;
+                Ok(120)
+            }
+            70..=84 => self.start_broken(),
+            85..=89 => {
+                let n = self.rng.pick(&[0, 1, 4096, WORDS - 1, MEMORY]) as u32;
+                self.add(Record::Lend(n))?;
+                Ok(6)
+            }
+            _ => {
+                // The memory whole again, the tables left as they are.
+                self.add(Record::Lend(WORDS as u32))?;
+                Ok(100)
+            }
+        }
+    }
+
+    fn start_broken(&mut self) -> io::Result<u64> {
+        let lists = tables::LIST_BREAKS.len();
+        let which = self.rng.below((lists + tables::RECORD_BREAKS.len()) as u64) as usize;
+        let breaks = match tables::LIST_BREAKS.get(which) {
+            Some(&breaks) => breaks,
+            None => tables::RECORD_BREAKS[which - lists],
+        };
+        // Some sound tables have no room for this break; the base always has.
+        let state = tables::sound(&mut self.rng);
+        let state =
+            tables::broken(state, breaks).or_else(|| tables::broken(tables::base(), breaks));
+        if let Some(state) = state {
+            self.poke_all(&tables::pokes(&state))?;
+        }
+        Ok(6)
+    }
+
+    fn poke_all(&mut self, records: &[Record]) -> io::Result<()> {
+        records.iter().try_for_each(|&record| self.add(record))
+    }
+
+    /// Shows the tables and the words that the histories like to change.
+    fn show(&mut self) -> io::Result<()> {
+        self.add(Record::Dump)?;
+        for process in [0, 1, 7, self.rng.below(10) as u8] {
+            for address in [0, 4, 8, 4092] {
+                self.add(Record::Word { process, address })?;
+            }
+        }
+        Ok(())
+    }
+}
+
+/// Writes a script of `count` events.
+pub fn write(seed: u64, count: u64, out: &mut impl Write) -> io::Result<()> {
+    let (rng, machine) = (Rng::new(seed), Machine::fresh());
+    let mut maker = Maker { rng, machine, script: Vec::new(), out };
+    let mut left = count;
+    while left > 0 {
+        let longest = maker.start()?;
+        let length = left.min(1 + maker.rng.below(longest));
+        for _ in 0..length {
+            maker.event()?;
+            if maker.rng.percent(3) {
+                maker.show()?;
+            }
+        }
+        maker.show()?;
+        left -= length;
+    }
+    maker.out.write_all(&maker.script)
+}

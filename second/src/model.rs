@@ -1,0 +1,180 @@
+//! The futex kernel by the rules of document 01: the events, the answers and
+//! `step`, which applies one event to the tables and the lent words.
+
+mod calls;
+mod tables;
+
+use std::fmt;
+
+pub use tables::{State, Thread, INTERRUPTED, NO_ENTRY, NO_SLEEP_ENDED, TIMED_OUT, WOKEN};
+
+/// Eight processes of eight threads each.
+pub const PROCESSES: usize = 8;
+pub const THREADS_PER_PROCESS: usize = 8;
+pub const THREADS: usize = PROCESSES * THREADS_PER_PROCESS;
+/// Each process has 1,024 futex words, at byte addresses 0, 4, .. 4092.
+pub const WORDS_PER_PROCESS: usize = 1024;
+pub const WORDS: usize = PROCESSES * WORDS_PER_PROCESS;
+pub const FIRST_BAD_ADDRESS: u32 = 4 * WORDS_PER_PROCESS as u32;
+
+// The refusals, with the names that the Linux headers give them.
+pub const ESRCH: i32 = -3;
+pub const ENXIO: i32 = -6;
+pub const EBADF: i32 = -9;
+pub const EAGAIN: i32 = -11;
+pub const ENOMEM: i32 = -12;
+pub const EFAULT: i32 = -14;
+pub const EBUSY: i32 = -16;
+pub const EINVAL: i32 = -22;
+pub const ENOSYS: i32 = -38;
+pub const ETIMEDOUT: i32 = -110;
+
+/// The command numbers.
+pub const WAIT: u32 = 0;
+pub const WAKE: u32 = 1;
+pub const REQUEUE: u32 = 3;
+pub const CMP_REQUEUE: u32 = 4;
+pub const WAKE_OP: u32 = 5;
+pub const WAIT_BITSET: u32 = 9;
+pub const WAKE_BITSET: u32 = 10;
+/// The option bits.
+pub const PRIVATE_BIT: u32 = 128;
+pub const CLOCK_BIT: u32 = 256;
+
+/// The arguments of one futex call, as they arrive.
+#[derive(Clone, Copy, Debug, Default, PartialEq, Eq)]
+pub struct Call {
+    pub process: u8,
+    pub index: u8,
+    pub op: u32,
+    pub uaddr: u32,
+    pub val: u32,
+    /// "Timeout given": 0 is no, anything above counts as 1.
+    pub flag: u8,
+    pub timeout: u64,
+    pub uaddr2: u32,
+    pub val3: u32,
+}
+
+/// All that can happen to the kernel.
+#[derive(Clone, Copy, Debug, PartialEq, Eq)]
+pub enum Event {
+    Call(Call),
+    Store { process: u8, address: u32, value: u32 },
+    Clock { time: u64 },
+    Interrupt { process: u8, index: u8 },
+    Query { process: u8 },
+}
+
+/// All that an event reports.
+#[derive(Clone, Copy, Debug, PartialEq, Eq)]
+pub enum Answer {
+    Asleep,
+    Number(i32),
+    /// The waiting threads as bits, how many they are, the lowest (8 if none).
+    Panel(u8, u32, u32),
+}
+
+impl fmt::Display for Answer {
+    /// An answer as replays and scripts print it.
+    fn fmt(&self, out: &mut fmt::Formatter) -> fmt::Result {
+        match self {
+            Answer::Asleep => write!(out, "asleep"),
+            Answer::Number(number) => write!(out, "{number}"),
+            Answer::Panel(bits, count, lowest) => write!(out, "{bits} {count} {lowest}"),
+        }
+    }
+}
+
+/// Applies one event. A refusal is an `Err` inside, so that each test can
+/// leave at once; nothing is changed before the last test has passed.
+pub fn step(state: &mut State, words: &mut [u32], event: &Event) -> Answer {
+    let result = match *event {
+        Event::Call(ref call) => calls::call(state, words, call),
+        Event::Store { process, address, value } => store(state, words, process, address, value),
+        Event::Clock { time } => clock(state, words, time),
+        Event::Interrupt { process, index } => interrupt(state, words, process, index),
+        Event::Query { process } => return query(state, process),
+    };
+    result.unwrap_or_else(Answer::Number)
+}
+
+/// The two tests that come first for every event but a panel query.
+fn check_lent(state: &State, words: &[u32]) -> Result<(), i32> {
+    if words.len() != WORDS {
+        return Err(ENXIO);
+    }
+    if !state.rules_hold() {
+        return Err(EBADF);
+    }
+    Ok(())
+}
+
+/// Thread (p, i) has number 8p + i; a number above 7 names no thread.
+fn thread_number(process: u8, index: u8) -> Option<usize> {
+    let (process, index) = (process as usize, index as usize);
+    if process < PROCESSES && index < THREADS_PER_PROCESS {
+        Some(THREADS_PER_PROCESS * process + index)
+    } else {
+        None
+    }
+}
+
+/// Where the word of a process lies in the lent memory. Only asked after the
+/// process and the address have been tested.
+fn word_number(process: u8, address: u32) -> usize {
+    WORDS_PER_PROCESS * process as usize + (address / 4) as usize
+}
+
+fn store(
+    state: &State,
+    words: &mut [u32],
+    process: u8,
+    address: u32,
+    value: u32,
+) -> Result<Answer, i32> {
+    check_lent(state, words)?;
+    if process as usize >= PROCESSES {
+        return Err(ESRCH);
+    }
+    if address % 4 != 0 {
+        return Err(EINVAL);
+    }
+    if address >= FIRST_BAD_ADDRESS {
+        return Err(EFAULT);
+    }
+    words[word_number(process, address)] = value;
+    Ok(Answer::Number(0))
+}
+
+fn clock(state: &mut State, words: &[u32], time: u64) -> Result<Answer, i32> {
+    check_lent(state, words)?;
+    if time < state.clock {
+        return Err(EINVAL);
+    }
+    state.clock = time;
+    let over = |_: usize, thread: &Thread| thread.timed && thread.deadline <= time;
+    Ok(Answer::Number(state.end_sleeps(u32::MAX, TIMED_OUT, over)))
+}
+
+fn interrupt(state: &mut State, words: &[u32], process: u8, index: u8) -> Result<Answer, i32> {
+    check_lent(state, words)?;
+    let target = thread_number(process, index).ok_or(ESRCH)?;
+    // Only waiting threads are on the list, so a running one ends nothing: 0.
+    Ok(Answer::Number(state.end_sleeps(1, INTERRUPTED, |number, _| number == target)))
+}
+
+/// The panel query takes no words; what it cannot answer is 0, 0, 8.
+fn query(state: &State, process: u8) -> Answer {
+    if process as usize >= PROCESSES || !state.rules_hold() {
+        return Answer::Panel(0, 0, 8);
+    }
+    let mut bits = 0u8;
+    for index in 0..THREADS_PER_PROCESS {
+        if state.threads[THREADS_PER_PROCESS * process as usize + index].waiting {
+            bits |= 1 << index;
+        }
+    }
+    // For an empty byte trailing_zeros is 8, just what the panel wants.
+    Answer::Panel(bits, bits.count_ones(), bits.trailing_zeros())
+}

@@ -1,0 +1,228 @@
+//! The futex call: its tests in the order of the table of answers, then what
+//! each command does.
+
+use super::{
+    check_lent, thread_number, word_number, Answer, Call, State, CLOCK_BIT, CMP_REQUEUE, EAGAIN,
+    EBUSY, EFAULT, EINVAL, ENOMEM, ENOSYS, ESRCH, ETIMEDOUT, FIRST_BAD_ADDRESS, PRIVATE_BIT,
+    REQUEUE, THREADS, WAIT, WAIT_BITSET, WAKE, WAKE_BITSET, WAKE_OP, WOKEN,
+};
+
+/// The highest cap that a wake may carry.
+const HIGHEST_CAP: u32 = 2147483647;
+/// The mask of a command that isn't a BITSET command.
+const ALL_ONES: u32 = u32::MAX;
+
+#[derive(Clone, Copy, PartialEq, Eq)]
+enum Command {
+    Wait,
+    WaitBitset,
+    Wake,
+    WakeBitset,
+    Requeue,
+    CmpRequeue,
+    WakeOp,
+}
+use Command::*;
+
+/// Answers one call. Each line is one row of the table of answers.
+pub fn call(state: &mut State, words: &mut [u32], call: &Call) -> Result<Answer, i32> {
+    check_lent(state, words)?; // -6, -9
+    let caller = thread_number(call.process, call.index).ok_or(ESRCH)?;
+    if state.threads[caller].waiting {
+        return Err(EBUSY);
+    }
+    let command = known_command(call.op).ok_or(ENOSYS)?;
+    if breaks_argument_rule(command, call) {
+        return Err(EINVAL);
+    }
+    if any_address_in_use(command, call, |address| address >= FIRST_BAD_ADDRESS) {
+        return Err(EFAULT);
+    }
+    if command == WakeOp && Operation::of(call.val3).is_none() {
+        return Err(ENOSYS);
+    }
+    if let Some(expected) = expected_word(command, call) {
+        if words[word_number(call.process, call.uaddr)] != expected {
+            return Err(EAGAIN);
+        }
+    }
+    if is_wait(command) {
+        return sleep(state, caller, command, call); // -110, -12
+    }
+    Ok(Answer::Number(wake_or_requeue(state, words, command, call)))
+}
+
+/// The command of an op, or none for -38: an unknown number, the clock bit,
+/// or a bit that is neither of the two options. The private bit has no effect.
+fn known_command(op: u32) -> Option<Command> {
+    if op & CLOCK_BIT != 0 {
+        return None;
+    }
+    match op & !PRIVATE_BIT {
+        WAIT => Some(Wait),
+        WAKE => Some(Wake),
+        REQUEUE => Some(Requeue),
+        CMP_REQUEUE => Some(CmpRequeue),
+        WAKE_OP => Some(WakeOp),
+        WAIT_BITSET => Some(WaitBitset),
+        WAKE_BITSET => Some(WakeBitset),
+        _ => None,
+    }
+}
+
+fn is_wait(command: Command) -> bool {
+    matches!(command, Wait | WaitBitset)
+}
+
+/// The commands that use uaddr2 are just those that use a second cap.
+fn has_second(command: Command) -> bool {
+    matches!(command, Requeue | CmpRequeue | WakeOp)
+}
+
+/// The second cap is the timeout modulo 2^32; the flag is ignored.
+fn second_cap(call: &Call) -> u32 {
+    (call.timeout % (1 << 32)) as u32
+}
+
+fn any_address_in_use(command: Command, call: &Call, test: impl Fn(u32) -> bool) -> bool {
+    test(call.uaddr) || (has_second(command) && test(call.uaddr2))
+}
+
+/// The argument rules (-22). Arguments not in use are not looked at: val is a
+/// cap for every command but a wait.
+fn breaks_argument_rule(command: Command, call: &Call) -> bool {
+    let cap = !is_wait(command) && call.val > HIGHEST_CAP;
+    let second = has_second(command) && second_cap(call) > HIGHEST_CAP;
+    let mask = matches!(command, WaitBitset | WakeBitset) && call.val3 == 0;
+    let alignment = any_address_in_use(command, call, |address| address % 4 != 0);
+    let same = matches!(command, Requeue | CmpRequeue) && call.uaddr == call.uaddr2;
+    cap || second || mask || alignment || same
+}
+
+/// What the word at uaddr must be, for the commands that compare (-11).
+fn expected_word(command: Command, call: &Call) -> Option<u32> {
+    match command {
+        Wait | WaitBitset => Some(call.val),
+        CmpRequeue => Some(call.val3),
+        _ => None,
+    }
+}
+
+/// A wait whose word matched: the deadline is tested, then the list's room,
+/// and only then does the caller join the list.
+fn sleep(state: &mut State, caller: usize, command: Command, call: &Call) -> Result<Answer, i32> {
+    let deadline = deadline(command, call, state.clock);
+    if deadline.is_some_and(|time| time <= state.clock) {
+        return Err(ETIMEDOUT);
+    }
+    // Sound tables with a running caller list at most 63, so this one never
+    // answers; it stands because the table of answers has it.
+    if state.count >= THREADS as u64 {
+        return Err(ENOMEM);
+    }
+    let bitset = if command == WaitBitset { call.val3 } else { ALL_ONES };
+    state.join(caller, call.uaddr, bitset, deadline);
+    Ok(Answer::Asleep)
+}
+
+/// WAIT's timeout is relative and stops at 2^64 - 1, WAIT_BITSET's is absolute.
+fn deadline(command: Command, call: &Call, clock: u64) -> Option<u64> {
+    if call.flag == 0 {
+        return None;
+    }
+    if command == WaitBitset {
+        return Some(call.timeout);
+    }
+    Some(clock.saturating_add(call.timeout))
+}
+
+/// The commands that never sleep, after all tests. Gives the count.
+fn wake_or_requeue(state: &mut State, words: &mut [u32], command: Command, call: &Call) -> i32 {
+    if command == WakeOp {
+        return wake_op(state, words, call);
+    }
+    let mask = if command == WakeBitset { call.val3 } else { ALL_ONES };
+    let released = release(state, call.process, call.uaddr, mask, call.val);
+    if !has_second(command) {
+        return released;
+    }
+    let cap = second_cap(call);
+    let moved = state.move_sleepers(call.process, call.uaddr, call.uaddr2, cap);
+    // REQUEUE reports the released only, CMP_REQUEUE the sum.
+    if command == Requeue {
+        released
+    } else {
+        released + moved
+    }
+}
+
+/// Releases the first `cap` sleepers of a word whose mask shares a bit.
+fn release(state: &mut State, process: u8, address: u32, mask: u32, cap: u32) -> i32 {
+    state.end_sleeps(cap, WOKEN, |number, thread| {
+        thread.waits_at(number, process, address) && thread.bitset & mask != 0
+    })
+}
+
+/// WAKE_OP: the second word changes first, then sleepers of the first word are
+/// released, then, if the old second word compares true, those of the second.
+fn wake_op(state: &mut State, words: &mut [u32], call: &Call) -> i32 {
+    let Some(operation) = Operation::of(call.val3) else {
+        return ENOSYS; // tested before; nothing has changed here either
+    };
+    let place = word_number(call.process, call.uaddr2);
+    let old = words[place];
+    words[place] = operation.new_word(old);
+    let mut released = release(state, call.process, call.uaddr, ALL_ONES, call.val);
+    if operation.compares_true(old) {
+        let cap = second_cap(call);
+        released += release(state, call.process, call.uaddr2, ALL_ONES, cap);
+    }
+    released
+}
+
+/// WAKE_OP's val3 taken apart: from the top 4 bits op, 4 cmp, 12 oparg,
+/// 12 cmparg.
+struct Operation {
+    action: u32,
+    operand: u32,
+    comparison: u32,
+    cmparg: u32,
+}
+
+impl Operation {
+    /// None if the operation or the comparison is undefined.
+    fn of(val3: u32) -> Option<Operation> {
+        let op = val3 >> 28;
+        let comparison = (val3 >> 24) & 15;
+        let oparg = (val3 >> 12) & 4095;
+        let cmparg = val3 & 4095;
+        let action = op & 7;
+        if action > 4 || comparison > 5 {
+            return None;
+        }
+        let operand = if op & 8 != 0 { 1 << (oparg % 32) } else { oparg };
+        Some(Operation { action, operand, comparison, cmparg })
+    }
+
+    fn new_word(&self, old: u32) -> u32 {
+        match self.action {
+            0 => self.operand,
+            1 => old.wrapping_add(self.operand),
+            2 => old | self.operand,
+            3 => old & !self.operand,
+            _ => old ^ self.operand,
+        }
+    }
+
+    /// Unsigned, old word against cmparg.
+    fn compares_true(&self, old: u32) -> bool {
+        match self.comparison {
+            0 => old == self.cmparg,
+            1 => old != self.cmparg,
+            2 => old < self.cmparg,
+            3 => old <= self.cmparg,
+            4 => old > self.cmparg,
+            _ => old >= self.cmparg,
+        }
+    }
+}

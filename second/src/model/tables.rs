@@ -1,0 +1,163 @@
+//! The tables: the clock, 64 thread records and the arrival list, the rules
+//! they keep, and the few ways in which sleepers come, go and move.
+
+use super::{FIRST_BAD_ADDRESS, THREADS, THREADS_PER_PROCESS};
+
+/// What stands in the arrival list where no thread does.
+pub const NO_ENTRY: u8 = 255;
+
+// The last answer is kept as a code, since the tables as bytes hold a code and
+// may hold one that stands for nothing.
+pub const NO_SLEEP_ENDED: u8 = 0; // document 01's 1
+pub const WOKEN: u8 = 1; // document 01's 0
+pub const TIMED_OUT: u8 = 2; // -110
+pub const INTERRUPTED: u8 = 3; // -4
+
+/// One thread record.
+#[derive(Clone, Copy, Debug, PartialEq, Eq)]
+pub struct Thread {
+    pub waiting: bool,
+    pub uaddr: u32,
+    pub bitset: u32,
+    pub timed: bool,
+    pub deadline: u64,
+    pub last: u8,
+}
+
+impl Thread {
+    /// A running record: zeros for all that only a waiter has.
+    pub const fn running(last: u8) -> Thread {
+        Thread { waiting: false, uaddr: 0, bitset: 0, timed: false, deadline: 0, last }
+    }
+
+    /// The table rules that speak of one record alone.
+    fn rules_hold(&self, clock: u64) -> bool {
+        if self.last > INTERRUPTED {
+            return false;
+        }
+        if !self.waiting {
+            return *self == Thread::running(self.last);
+        }
+        let deadline_good = if self.timed { self.deadline > clock } else { self.deadline == 0 };
+        self.uaddr % 4 == 0 && self.uaddr < FIRST_BAD_ADDRESS && self.bitset != 0 && deadline_good
+    }
+
+    /// Whether this record, that of thread `number`, is in the queue of a
+    /// word. Every futex is private to its process, so the address alone
+    /// doesn't name it.
+    pub fn waits_at(&self, number: usize, process: u8, address: u32) -> bool {
+        self.waiting && number / THREADS_PER_PROCESS == process as usize && self.uaddr == address
+    }
+}
+
+/// The tables. Any value of any field can be held, broken ones too.
+#[derive(Clone, Debug, PartialEq, Eq)]
+pub struct State {
+    pub clock: u64,
+    pub threads: [Thread; THREADS],
+    pub list: [u8; THREADS],
+    pub count: u64,
+}
+
+impl State {
+    /// Clock 0, all running, no sleep ended yet, list empty.
+    pub const fn fresh() -> State {
+        State {
+            clock: 0,
+            threads: [Thread::running(NO_SLEEP_ENDED); THREADS],
+            list: [NO_ENTRY; THREADS],
+            count: 0,
+        }
+    }
+
+    /// All the table rules.
+    pub fn rules_hold(&self) -> bool {
+        self.list_rules_hold() && self.threads.iter().all(|t| t.rules_hold(self.clock))
+    }
+
+    /// The rules of the arrival list: the first `count` entries are all
+    /// different and are exactly the waiting threads, the others are empty.
+    fn list_rules_hold(&self) -> bool {
+        if self.count > THREADS as u64 {
+            return false;
+        }
+        let (used, unused) = self.list.split_at(self.count as usize);
+        let mut listed = [false; THREADS];
+        for &entry in used {
+            let number = entry as usize;
+            if number >= THREADS || listed[number] {
+                return false;
+            }
+            listed[number] = true;
+        }
+        unused.iter().all(|&entry| entry == NO_ENTRY)
+            && (0..THREADS).all(|t| listed[t] == self.threads[t].waiting)
+    }
+
+    /// Puts a thread to sleep at the end of the arrival list. The deadline is
+    /// none or above the clock; the last answer stays until this sleep ends.
+    pub fn join(&mut self, number: usize, uaddr: u32, bitset: u32, deadline: Option<u64>) {
+        let last = self.threads[number].last;
+        self.threads[number] = Thread {
+            waiting: true,
+            uaddr,
+            bitset,
+            timed: deadline.is_some(),
+            deadline: deadline.unwrap_or(0),
+            last,
+        };
+        self.list[self.count as usize] = number as u8;
+        self.count += 1;
+    }
+
+    /// Ends the sleep of the first `cap` listed threads that `chosen` picks,
+    /// with the given last answer. All others stay listed in their order, and
+    /// one that is passed over doesn't count against the cap. Gives how many.
+    pub fn end_sleeps(
+        &mut self,
+        cap: u32,
+        last: u8,
+        chosen: impl Fn(usize, &Thread) -> bool,
+    ) -> i32 {
+        let mut ended = 0;
+        let mut kept = [NO_ENTRY; THREADS];
+        let mut kept_count = 0;
+        for &entry in &self.list[..self.count as usize] {
+            let number = entry as usize;
+            if ended < cap && chosen(number, &self.threads[number]) {
+                self.threads[number] = Thread::running(last);
+                ended += 1;
+            } else {
+                kept[kept_count] = entry;
+                kept_count += 1;
+            }
+        }
+        self.list = kept;
+        self.count = kept_count as u64;
+        ended as i32
+    }
+
+    /// Moves the first `cap` sleepers of one word to another word of the same
+    /// process: they leave their places and join the end of the arrival list
+    /// in their order, mask and deadline kept. Gives how many.
+    pub fn move_sleepers(&mut self, process: u8, from: u32, to: u32, cap: u32) -> i32 {
+        let mut moved = [NO_ENTRY; THREADS];
+        let mut moved_count = 0;
+        let mut kept = [NO_ENTRY; THREADS];
+        let mut kept_count = 0;
+        for &entry in &self.list[..self.count as usize] {
+            let number = entry as usize;
+            if (moved_count as u32) < cap && self.threads[number].waits_at(number, process, from) {
+                self.threads[number].uaddr = to;
+                moved[moved_count] = entry;
+                moved_count += 1;
+            } else {
+                kept[kept_count] = entry;
+                kept_count += 1;
+            }
+        }
+        kept[kept_count..kept_count + moved_count].copy_from_slice(&moved[..moved_count]);
+        self.list = kept;
+        moved_count as i32
+    }
+}

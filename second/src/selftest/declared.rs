@@ -1,0 +1,232 @@
+//! The rules of document 01 said once more, in another way: refusals as the
+//! table of answers, effects as sets of threads taken from queues. It builds
+//! whole new tables and words, to be compared with what `step` left behind.
+
+use crate::model::{Answer, Call, Event, State, Thread, THREADS, WORDS};
+
+type Outcome = (Answer, State, Vec<u32>);
+
+/// What an event must answer and leave behind.
+pub fn outcome(state: &State, words: &[u32], event: &Event) -> Outcome {
+    let refused = |number| (Answer::Number(number), state.clone(), words.to_vec());
+    if let Event::Query { process } = *event {
+        return (panel(state, process), state.clone(), words.to_vec());
+    }
+    if let Some(number) = refusal(state, words, event) {
+        return refused(number);
+    }
+    let (mut after, mut new_words) = (state.clone(), words.to_vec());
+    let answer = match *event {
+        Event::Call(ref call) => effect(state, &mut after, &mut new_words, call),
+        Event::Store { process, address, value } => {
+            new_words[word(process, address)] = value;
+            Answer::Number(0)
+        }
+        Event::Clock { time } => {
+            after.clock = time;
+            let over = |&t: &usize| state.threads[t].timed && state.threads[t].deadline <= time;
+            let ended: Vec<usize> = queue(state).into_iter().filter(over).collect();
+            end(&mut after, &ended, 2)
+        }
+        Event::Interrupt { process, index } => {
+            let target = 8 * process as usize + index as usize;
+            let ended: Vec<usize> = queue(state).into_iter().filter(|&t| t == target).collect();
+            end(&mut after, &ended, 3)
+        }
+        Event::Query { .. } => unreachable!(),
+    };
+    (answer, after, new_words)
+}
+
+fn panel(state: &State, process: u8) -> Answer {
+    if process > 7 || !sound(state) {
+        return Answer::Panel(0, 0, 8);
+    }
+    let own = queue(state).into_iter().filter(|t| t / 8 == process as usize);
+    let own: Vec<usize> = own.map(|t| t % 8).collect();
+    let bits = own.iter().map(|t| 1u8 << t).sum();
+    Answer::Panel(bits, own.len() as u32, own.iter().min().map_or(8, |&t| t as u32))
+}
+
+fn word(process: u8, address: u32) -> usize {
+    1024 * process as usize + address as usize / 4
+}
+
+/// The whole arrival list.
+fn queue(state: &State) -> Vec<usize> {
+    state.list[..state.count as usize].iter().map(|&entry| entry as usize).collect()
+}
+
+/// The queue of one word.
+fn queue_at(state: &State, process: u8, address: u32) -> Vec<usize> {
+    let here = |t: &usize| *t / 8 == process as usize && state.threads[*t].uaddr == address;
+    queue(state).into_iter().filter(here).collect()
+}
+
+/// The table rules, by counting instead of marking.
+fn sound(state: &State) -> bool {
+    if state.count > 64 {
+        return false;
+    }
+    let listed = queue(state);
+    let times = |t: usize| listed.iter().filter(|&&entry| entry == t).count();
+    let rest = &state.list[state.count as usize..];
+    listed.iter().all(|&entry| entry < THREADS)
+        && rest.iter().all(|&entry| entry == 255)
+        && (0..THREADS).all(|t| times(t) == state.threads[t].waiting as usize)
+        && state.threads.iter().all(|t| sound_record(t, state.clock))
+}
+
+fn sound_record(thread: &Thread, clock: u64) -> bool {
+    let Thread { waiting, uaddr, bitset, timed, deadline, last } = *thread;
+    let zeros = (uaddr, bitset, timed, deadline) == (0, 0, false, 0);
+    let aligned = (0..4096).step_by(4).any(|address| address == uaddr);
+    let ahead = (!timed && deadline == 0) || (timed && deadline > clock);
+    last < 4 && if waiting { aligned && bitset > 0 && ahead } else { zeros }
+}
+
+/// The first row that applies. Later rows are asked only if no earlier one
+/// applied, so they may count on it.
+fn refusal(state: &State, words: &[u32], event: &Event) -> Option<i32> {
+    if words.len() != WORDS {
+        return Some(-6);
+    }
+    if !sound(state) {
+        return Some(-9);
+    }
+    match *event {
+        Event::Call(ref call) => call_refusal(state, words, call),
+        Event::Store { process, .. } if process > 7 => Some(-3),
+        Event::Store { address, .. } if address & 3 != 0 => Some(-22),
+        Event::Store { address, .. } if address > 4092 => Some(-14),
+        Event::Clock { time } if time < state.clock => Some(-22),
+        Event::Interrupt { process, index } if process > 7 || index > 7 => Some(-3),
+        _ => None,
+    }
+}
+
+fn call_refusal(state: &State, words: &[u32], call: &Call) -> Option<i32> {
+    let command = call.op & !128;
+    let caller = 8 * call.process as usize + call.index as usize;
+    let two = [3, 4, 5].contains(&command);
+    let wait = [0, 9].contains(&command);
+    let used: &[u32] = if two { &[call.uaddr, call.uaddr2] } else { &[call.uaddr] };
+    let (op, cmp) = (call.val3 >> 28 & 7, call.val3 >> 24 & 15);
+    let argument = (!wait && call.val >> 31 == 1)
+        || (two && call.timeout >> 31 & 1 == 1)
+        || ([9, 10].contains(&command) && call.val3 == 0)
+        || used.iter().any(|address| address & 3 != 0)
+        || ([3, 4].contains(&command) && call.uaddr == call.uaddr2);
+    let differs = |expected| words[word(call.process, call.uaddr)] != expected;
+    let rows: [(i32, &dyn Fn() -> bool); 8] = [
+        (-3, &|| call.process > 7 || call.index > 7),
+        (-16, &|| state.threads[caller].waiting),
+        (-38, &|| ![0, 1, 3, 4, 5, 9, 10].contains(&command)),
+        (-22, &|| argument),
+        (-14, &|| used.iter().any(|&address| address > 4095)),
+        (-38, &|| command == 5 && (op > 4 || cmp > 5)),
+        (-11, &|| (wait && differs(call.val)) || (command == 4 && differs(call.val3))),
+        (-110, &|| wait && deadline(state, call).is_some_and(|d| d <= state.clock as u128)),
+    ];
+    rows.iter().find(|(_, applies)| applies()).map(|(number, _)| *number)
+}
+
+/// The deadline of a wait, in a width where no sum can wrap.
+fn deadline(state: &State, call: &Call) -> Option<u128> {
+    let from = if call.op & 9 == 9 { 0 } else { state.clock as u128 };
+    (call.flag > 0).then_some((from + call.timeout as u128).min(u64::MAX as u128))
+}
+
+/// Takes threads off the list and lets them run with a last answer.
+fn end(after: &mut State, ended: &[usize], last: u8) -> Answer {
+    for &t in ended {
+        after.threads[t] = Thread::running(last);
+    }
+    let left: Vec<usize> = queue(after).into_iter().filter(|t| !ended.contains(t)).collect();
+    set_list(after, &left);
+    Answer::Number(ended.len() as i32)
+}
+
+fn set_list(after: &mut State, listed: &[usize]) {
+    after.list = std::array::from_fn(|place| listed.get(place).map_or(255, |&t| t as u8));
+    after.count = listed.len() as u64;
+}
+
+/// A call that no row refuses.
+fn effect(state: &State, after: &mut State, words: &mut [u32], call: &Call) -> Answer {
+    let here = queue_at(state, call.process, call.uaddr);
+    let cap = call.val as usize;
+    match call.op & !128 {
+        0 | 9 => fall_asleep(after, call),
+        1 => end(after, &here[..cap.min(here.len())], 1),
+        10 => {
+            let shares = |t: &usize| state.threads[*t].bitset & call.val3 != 0;
+            let chosen: Vec<usize> = here.into_iter().filter(shares).take(cap).collect();
+            end(after, &chosen, 1)
+        }
+        5 => wake_op(state, after, words, call),
+        command => requeue(after, &here, call, command == 4),
+    }
+}
+
+fn fall_asleep(after: &mut State, call: &Call) -> Answer {
+    let caller = 8 * call.process as usize + call.index as usize;
+    let deadline = deadline(after, call);
+    let thread = &mut after.threads[caller];
+    thread.waiting = true;
+    thread.uaddr = call.uaddr;
+    thread.bitset = if call.op & 9 == 9 { call.val3 } else { !0 };
+    thread.timed = deadline.is_some();
+    thread.deadline = deadline.map_or(0, |time| time as u64);
+    let listed = [queue(after), vec![caller]].concat();
+    set_list(after, &listed);
+    Answer::Asleep
+}
+
+fn requeue(after: &mut State, here: &[usize], call: &Call, sum: bool) -> Answer {
+    let released: Vec<usize> = here.iter().copied().take(call.val as usize).collect();
+    let cap = call.timeout as u32 as usize;
+    let moved: Vec<usize> = here.iter().copied().skip(released.len()).take(cap).collect();
+    end(after, &released, 1);
+    let mut listed: Vec<usize> = queue(after);
+    listed.retain(|t| !moved.contains(t));
+    listed.extend(&moved);
+    set_list(after, &listed);
+    for &t in &moved {
+        after.threads[t].uaddr = call.uaddr2;
+    }
+    Answer::Number((released.len() + if sum { moved.len() } else { 0 }) as i32)
+}
+
+fn wake_op(state: &State, after: &mut State, words: &mut [u32], call: &Call) -> Answer {
+    let place = word(call.process, call.uaddr2);
+    let old = words[place];
+    let (oparg, cmparg) = (call.val3 << 8 >> 20, call.val3 << 20 >> 20);
+    let operand = if call.val3 >> 31 == 1 { 2u64.pow(oparg & 31) } else { oparg as u64 };
+    let new = match call.val3 >> 28 & 7 {
+        0 => operand,
+        1 => old as u64 + operand,
+        2 => old as u64 | operand,
+        3 => (old as u64 | operand) - operand,
+        _ => (old as u64 | operand) - (old as u64 & operand),
+    };
+    words[place] = new as u32;
+    let order = old.cmp(&cmparg);
+    let compares_true = match call.val3 >> 24 & 15 {
+        0 => order.is_eq(),
+        1 => order.is_ne(),
+        2 => order.is_lt(),
+        3 => order.is_le(),
+        4 => order.is_gt(),
+        _ => order.is_ge(),
+    };
+    let mut ended = queue_at(state, call.process, call.uaddr);
+    ended.truncate(call.val as usize);
+    if compares_true {
+        let mut there = queue_at(state, call.process, call.uaddr2);
+        there.retain(|t| !ended.contains(t));
+        there.truncate(call.timeout as u32 as usize);
+        ended.extend(there);
+    }
+    end(after, &ended, 1)
+}
