@@ -27,6 +27,8 @@ const USAGE: &str = "usage:
   second make-script random SEED N
   second make-log sample SEED N
   second make-log damaged SEED
+  second make-log story
+  second make-logs FOLDER
   second selftest
   second speed SEED N";
 
@@ -55,6 +57,12 @@ fn run(arguments: &[&str]) -> io::Result<ExitCode> {
         }
         ["make-log", "damaged", seed] => {
             out.write_all(&logs::damaged(&mut Rng::new(number(seed)?)))?;
+        }
+        ["make-log", "story"] => out.write_all(&logs::story())?,
+        ["make-logs", folder] => {
+            for (number, log) in logs::edges().iter().enumerate() {
+                std::fs::write(format!("{folder}/{number}"), log)?;
+            }
         }
         ["selftest"] => {
             drop(out);

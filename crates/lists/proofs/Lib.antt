@@ -4,3 +4,4 @@ pub mod Update
 pub mod Occurs
 pub mod Count
 pub mod Loops
+pub mod Stores

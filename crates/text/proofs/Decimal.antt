@@ -1,0 +1,57 @@
+-- What io::decimal leaves is a number's text: the fewest digits are one number.
+use mathlib.Core.Path.{_≡_, refl, ap, sym, _∙_}
+use Prim.Native.Nat.{ℕ, zero, suc, _+_, _-_, _*_, _/_, _^_, _≤_, _<_}
+use native.Mathlib.Omega.{arith}
+use native.Mathlib.Nat.{pow-succ', pow-le-pow-right}
+use lib.ListN.{length, length-append}
+use lib.Dec.{ltb}
+use borrow.Author.Tests.{ltb-true, ltb-false}
+use Rattle.io.specs.Digits.{digits, Fewest}
+use Rattle.lists.proofs.Tests.{cases}
+use Rattle.text.specs.Text.{placesFor, decimal}
+
+pow-up : (i j : ℕ) → i ≤ j → 10 ^ i ≤ 10 ^ j
+pow-up i j h = pow-le-pow-right {n = 10} (omega arith) h
+
+not-more : (n j k : ℕ) → Fewest 10 1 n j → Fewest 10 1 n k → k < j → ⊥
+not-more n j k a b h =
+    let u = a .2 (omega (arith, b .0)) in
+    let v = pow-up k (j - 1) (omega arith) in
+    omega (arith, b .1)
+
+pub fewest-one : (n j k : ℕ) → Fewest 10 1 n j → Fewest 10 1 n k → j ≡ k
+fewest-one n j k a b = let u = not-more n j k a b in let v = not-more n k j b a in omega arith
+
+pub places-fewest : (f n : ℕ) → n < 10 ^ (f + 1) → Fewest 10 1 n (placesFor f n)
+places-fewest zero n h = (omega arith, h, λ p. absurd (omega arith))
+places-fewest (suc f) n h =
+    cases (ltb n 10)
+    (λ e. let u = ltb-true n 10 e in rw e ((omega arith, omega arith, λ p. absurd (omega arith))))
+    (λ e.
+    let u = ltb-false n 10 e in
+    let w : suc f + 1 ≡ suc (f + 1) = omega arith in
+    let g : n < 10 * 10 ^ (f + 1) = rw (w, pow-succ') at h in
+    let p = placesFor f (n / 10) in
+    let ih = places-fewest f (n / 10) (omega arith) in
+    let a : suc p - 1 ≡ p = omega arith in
+    let b : 10 ^ p ≤ n =
+    cases (ltb 1 p)
+    (λ q. let r = ih .2 (ltb-true 1 p q) in
+    let t : p ≡ suc (p - 1) = omega (arith, ltb-true 1 p q) in
+    let s : 10 ^ p ≡ 10 * 10 ^ (p - 1) = ap (λ (x : ℕ). 10 ^ x) t ∙ pow-succ' 10 (p - 1) in
+    omega arith)
+    (λ q. let r = ltb-false 1 p q in let t : p ≡ 1 = omega (arith, ih .0) in rw t (omega arith)) in
+    rw e ((omega arith, rw pow-succ' (omega (arith, ih .1)), λ x. rw a b)))
+
+pub length-digits : (k n : ℕ) → length (digits 10 k n) ≡ k
+length-digits zero n = refl
+length-digits (suc k) n = rw (length-append, length-digits k (n / 10)) (omega arith)
+
+-- what io::decimal leaves is the number's text
+pub decimal-is : (n r : ℕ) → n < 2 ^ 32 → Fewest 10 1 n r → (digits 10 r n ≡ decimal n) × (r ≡ length (decimal n)) × (r ≤ 10)
+unfolding decimal
+decimal-is n r h f =
+    let w = places-fewest 19 n (omega arith) in
+    let e : r ≡ placesFor 19 n = fewest-one n r (placesFor 19 n) f w in
+    let ten : r ≤ 10 = cases (ltb 10 r) (λ q. let a = ltb-true 10 r q in let b = f .2 (omega arith) in let c = pow-up 10 (r - 1) (omega arith) in absurd (omega arith)) (λ q. ltb-false 10 r q) in
+    (ap (λ (x : ℕ). digits 10 x n) e, e ∙ sym (length-digits (placesFor 19 n) n), ten)

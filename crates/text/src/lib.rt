@@ -1,0 +1,90 @@
+// Text: numbers and answers as lines of text, written into a lent slice. It stands on rules.
+ghost use mathlib.Core.Path.{_≡_};
+ghost use Prim.Native.Nat.{_+_, _≤_};
+ghost use lib.ListN.{length, take};
+ghost use lib.Seq.{sets};
+ghost use Rattle.text.specs.Text.{decimal, countLine, refusalLine, lineOf, lineRoom, Puts};
+use rules::answer::Answer;
+
+// Stores the first n bytes of src at a place.
+fn copy(src: [u8; 20], n: usize, out: &mut [u8], k: usize)
+    requires { ⌜ (n ≤ 20) × (k + n ≤ length (now out)) ⌝ }
+    ensures { λ _. ⌜ now (out .exit) ≡ sets (now (out .entry)) k (take n src) ⌝ }
+{
+    let mut i: usize = 0;
+    while i < n {
+        out[k + i] = src[i];
+        i += 1;
+    }
+}
+
+// A number's decimal digits at a place; the next place.
+fn put_decimal(v: u32, out: &mut [u8], k: usize) -> usize
+    requires { ⌜ k + 10 ≤ length (now out) ⌝ }
+    ensures { λ r. ⌜ Puts 10 k (decimal v) (now (out .entry)) r (now (out .exit)) ⌝ }
+{
+    let mut d = [0u8; 20];
+    let n = io::decimal(v as u64, &mut d);
+    copy(d, n, out, k);
+    k + n
+}
+
+// A number's line at a place; the next place.
+fn put_count(v: u32, out: &mut [u8], k: usize) -> usize
+    requires { ⌜ k + 11 ≤ length (now out) ⌝ }
+    ensures { λ r. ⌜ Puts 11 k (countLine v) (now (out .entry)) r (now (out .exit)) ⌝ }
+{
+    let j = put_decimal(v, out, k);
+    out[j] = 10;
+    j + 1
+}
+
+// A refusal's line at a place; the next place. Replays call it where there is room.
+pub fn put_refusal(v: u32, out: &mut [u8], k: usize) -> usize
+    requires { ⌜ k + lineRoom ≤ length (now out) ⌝ }
+    ensures { λ r. ⌜ Puts lineRoom k (refusalLine v) (now (out .entry)) r (now (out .exit)) ⌝ }
+{
+    out[k] = 45;
+    put_count(v, out, k + 1)
+}
+
+// An answer's line at a place; the next place. Replays call it where there is room.
+pub fn put_line(a: Answer, out: &mut [u8], k: usize) -> usize
+    requires { ⌜ k + lineRoom ≤ length (now out) ⌝ }
+    ensures { λ r. ⌜ Puts lineRoom k (lineOf a) (now (out .entry)) r (now (out .exit)) ⌝ }
+{
+    match a {
+        Answer::Asleep => {
+            let t = [
+                97u8,
+                115,
+                108,
+                101,
+                101,
+                112,
+                10,
+                0,
+                0,
+                0,
+                0,
+                0,
+                0,
+                0,
+                0,
+                0,
+                0,
+                0,
+                0,
+                0,
+            ];
+            copy(t, 7, out, k);
+            k + 7
+        }
+        Answer::Count(n) => put_count(n, out, k),
+        Answer::Refused(x) => {
+            let n = x.number();
+            put_refusal(n, out, k)
+        }
+        Answer::Waiting(_) => k,
+    }
+}
