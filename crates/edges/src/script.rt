@@ -45,6 +45,7 @@ fn byte(b: [u8; 32], i: usize) -> u32
     (b[i] as u32) % 256
 }
 
+// A number at a place of a body. The callers in this crate hand it a place of the paper's layout.
 pub fn u32_at(b: [u8; 32], at: usize) -> u32
     requires { ⌜ at ≤ 28 ⌝ }
 {
@@ -55,6 +56,7 @@ pub fn u32_at(b: [u8; 32], at: usize) -> u32
     b0 + 256 * b1 + 65536 * b2 + 16777216 * b3
 }
 
+// It is called as u32_at is.
 pub fn u64_at(b: [u8; 32], at: usize) -> u64
     requires { ⌜ at ≤ 24 ⌝ }
 {
