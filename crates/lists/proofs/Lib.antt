@@ -5,3 +5,4 @@ pub mod Occurs
 pub mod Count
 pub mod Loops
 pub mod Stores
+pub mod LittleEndian

@@ -1,0 +1,18 @@
+-- Numbers as bytes, the lowest first.
+use mathlib.Core.List.{List, [], _∷_}
+use Prim.Native.Nat.{ℕ, zero, suc, _+_, _*_, _/_, _%_, _<_}
+use lib.ListN.{getD}
+
+-- the number of these bytes, the lowest first
+abbrev pub le : List ℕ → ℕ
+le [] = 0
+le (b ∷ bs) = b + 256 * le bs
+
+-- the low w bytes of a number, the lowest first
+abbrev pub bytes : ℕ → ℕ → List ℕ
+bytes zero v = []
+bytes (suc w) v = v % 256 ∷ bytes w (v / 256)
+
+-- each number is a byte
+abbrev pub Bytes : List ℕ → Type 0
+Bytes l = (i : ℕ) → getD l i 0 < 256
