@@ -1,0 +1,225 @@
+/*
+ * Vradomil: a futex kernel for eight fixed processes of eight threads each.
+ *
+ * The host lends the kernel two buffers for the length of one call: the tables (1,296 bytes) and the futex words of all processes
+ * (32,768 bytes). The kernel keeps nothing of its own between calls, so a host may have several displays in one program.
+ *
+ * For every function:
+ *  - A pointer points to as many bytes as the length beside it says. It is never null, also where the length is 0.
+ *  - Tables and words don't overlap, and nobody else reads or writes them during the call.
+ *  - No alignment is needed.
+ *  - Every number, every table and every length is answered. A refusal is a number below 0 and changes no byte.
+ */
+#ifndef VRADOMIL_H
+#define VRADOMIL_H
+
+#include <stddef.h>
+#include <stdint.h>
+
+#ifdef __cplusplus
+#define VRADOMIL_ASSERT(condition, text) static_assert(condition, text)
+extern "C" {
+#else
+#define VRADOMIL_ASSERT(condition, text) _Static_assert(condition, text)
+#endif
+
+/* The fixed sizes. Thread (process, index) has number 8 * process + index. */
+#define VRADOMIL_PROCESSES 8
+#define VRADOMIL_THREADS_PER_PROCESS 8
+#define VRADOMIL_THREADS 64
+/* Each process has 1,024 words, at byte addresses 0, 4, .. 4092; the word at address a of process p is word 1024 * p + a / 4. */
+#define VRADOMIL_WORDS_PER_PROCESS 1024
+#define VRADOMIL_WORDS 8192
+#define VRADOMIL_TABLES_BYTES 1296
+#define VRADOMIL_WORDS_BYTES 32768
+
+/* What stands in the arrival list where no thread does. */
+#define VRADOMIL_NO_ENTRY 255
+
+/* The answer of a call that put its thread to sleep. No count is ever as high. */
+#define VRADOMIL_ASLEEP 2147483647
+
+/* The highest cap of a wake or requeue; it stands for "all". */
+#define VRADOMIL_ALL 2147483647
+
+/* The commands of vradomil_call. The numbers are those of linux/futex.h. */
+#define VRADOMIL_WAIT 0
+#define VRADOMIL_WAKE 1
+#define VRADOMIL_REQUEUE 3
+#define VRADOMIL_CMP_REQUEUE 4
+#define VRADOMIL_WAKE_OP 5
+#define VRADOMIL_WAIT_BITSET 9
+#define VRADOMIL_WAKE_BITSET 10
+
+/* The option bits of an op. The first has no effect here, for every futex is private; the second is always refused with -38. */
+#define VRADOMIL_PRIVATE 128
+#define VRADOMIL_CLOCK_REALTIME 256
+
+/* The parts of WAKE_OP's val3: what is done to the word at uaddr2 .. */
+#define VRADOMIL_OP_SET 0
+#define VRADOMIL_OP_ADD 1
+#define VRADOMIL_OP_OR 2
+#define VRADOMIL_OP_ANDN 3
+#define VRADOMIL_OP_XOR 4
+/* .. this bit added to one of the five: the operand is 2 to the power (oparg mod 32) .. */
+#define VRADOMIL_OP_SHIFT 8
+/* .. and how the old word is compared with cmparg, both unsigned. */
+#define VRADOMIL_CMP_EQ 0
+#define VRADOMIL_CMP_NE 1
+#define VRADOMIL_CMP_LT 2
+#define VRADOMIL_CMP_LE 3
+#define VRADOMIL_CMP_GT 4
+#define VRADOMIL_CMP_GE 5
+/* A whole val3. oparg and cmparg are 0 to 4095. */
+#define VRADOMIL_WAKE_OP_VAL3(op, oparg, cmp, cmparg) \
+    ((uint32_t)(op) << 28 | (uint32_t)(cmp) << 24 | ((uint32_t)(oparg) & 4095) << 12 | ((uint32_t)(cmparg) & 4095))
+
+/* The refusals, in the order in which they are tested; the first that applies answers. The numbers are those of errno.h, negated. */
+#define VRADOMIL_ENXIO (-6)       /* the words are not 32,768 bytes */
+#define VRADOMIL_EBADF (-9)       /* the tables are not 1,296 bytes, have a byte that stands for nothing, or break a table rule */
+#define VRADOMIL_ESRCH (-3)       /* the process or the index is above 7 */
+#define VRADOMIL_EBUSY (-16)      /* the calling thread is asleep */
+#define VRADOMIL_ENOSYS (-38)     /* unknown command or option; in its turn after -14, an undefined operation or comparison of WAKE_OP */
+#define VRADOMIL_EINVAL (-22)     /* an argument that no call may have: see vradomil_call, _store and _clock */
+#define VRADOMIL_EFAULT (-14)     /* an address in use is 4096 or more */
+#define VRADOMIL_EAGAIN (-11)     /* the compared word holds another number */
+#define VRADOMIL_ETIMEDOUT (-110) /* the deadline of the wait is not ahead; the thread did not sleep */
+#define VRADOMIL_ENOMEM (-12)     /* the arrival list is full; this cannot come, since the caller itself runs */
+
+/* The answer of an interrupted sleep. No function answers it; vradomil_last_answer does. */
+#define VRADOMIL_EINTR (-4)
+
+/* How the answer of a thread's last ended sleep stands in the tables. */
+#define VRADOMIL_LAST_NONE 0
+#define VRADOMIL_LAST_WOKEN 1
+#define VRADOMIL_LAST_TIMED_OUT 2
+#define VRADOMIL_LAST_INTERRUPTED 3
+
+/*
+ * The tables, laid over the bytes. A host may read them between calls; it should write them through the functions only.
+ * docs/TABLES.md says what each field may hold.
+ */
+struct vradomil_tables {
+    uint64_t clock;                            /* nanoseconds */
+    uint64_t count;                            /* how many threads are asleep */
+    uint8_t list[VRADOMIL_THREADS];            /* their numbers, in order of arrival; then 255 */
+    uint8_t waiting[VRADOMIL_THREADS];         /* 1 asleep, 0 running */
+    uint8_t timed[VRADOMIL_THREADS];           /* 1 where a sleeper has a deadline */
+    uint8_t last[VRADOMIL_THREADS];            /* VRADOMIL_LAST_.. */
+    uint32_t uaddr[VRADOMIL_THREADS];          /* the address that a sleeper waits at */
+    uint32_t bitset[VRADOMIL_THREADS];         /* its mask */
+    uint64_t deadline[VRADOMIL_THREADS];       /* on the kernel's clock */
+};
+
+#ifdef __BYTE_ORDER__
+VRADOMIL_ASSERT(__BYTE_ORDER__ == __ORDER_LITTLE_ENDIAN__, "the numbers in tables and words are little-endian");
+#endif
+VRADOMIL_ASSERT(sizeof(struct vradomil_tables) == VRADOMIL_TABLES_BYTES, "1,296 bytes, no padding");
+VRADOMIL_ASSERT(offsetof(struct vradomil_tables, clock) == 0, "clock at 0");
+VRADOMIL_ASSERT(offsetof(struct vradomil_tables, count) == 8, "count at 8");
+VRADOMIL_ASSERT(offsetof(struct vradomil_tables, list) == 16, "list at 16");
+VRADOMIL_ASSERT(offsetof(struct vradomil_tables, waiting) == 80, "waiting at 80");
+VRADOMIL_ASSERT(offsetof(struct vradomil_tables, timed) == 144, "timed at 144");
+VRADOMIL_ASSERT(offsetof(struct vradomil_tables, last) == 208, "last answer at 208");
+VRADOMIL_ASSERT(offsetof(struct vradomil_tables, uaddr) == 272, "uaddr at 272");
+VRADOMIL_ASSERT(offsetof(struct vradomil_tables, bitset) == 528, "bitset at 528");
+VRADOMIL_ASSERT(offsetof(struct vradomil_tables, deadline) == 784, "deadline at 784");
+VRADOMIL_ASSERT(4 * VRADOMIL_WORDS == VRADOMIL_WORDS_BYTES, "8,192 words of 32 bits");
+
+/*
+ * Lays down the fresh tables: clock 0, all threads running, no sleep ended yet, the list empty. The words may start as anything.
+ * Answers 0, or -9 if tables_len is not 1,296, and then writes nothing.
+ */
+int32_t vradomil_fresh(uint8_t *tables, size_t tables_len);
+
+/*
+ * One futex call by thread (process, index). An argument that the command doesn't use is ignored. flag says "timeout given": 0 is
+ * no, all else yes. The second cap of REQUEUE, CMP_REQUEUE and WAKE_OP is timeout modulo 2^32, whatever the flag.
+ *
+ *   WAIT          sleeps at uaddr if the word there is val. timeout is relative to the clock; clock + timeout stops at 2^64 - 1.
+ *   WAIT_BITSET   the same, with mask val3 and an absolute timeout.
+ *   WAKE          releases the first val sleepers at uaddr; 0 releases none.
+ *   WAKE_BITSET   the same, of those whose mask shares a bit with val3.
+ *   REQUEUE       releases the first val sleepers at uaddr and moves the next, up to the second cap, to uaddr2.
+ *   CMP_REQUEUE   the same if the word at uaddr is val3.
+ *   WAKE_OP       changes the word at uaddr2 by val3, releases the first val sleepers at uaddr and, if the old word compares true,
+ *                 the next ones at uaddr2, up to the second cap.
+ *
+ * Answers VRADOMIL_ASLEEP if the caller now sleeps: the host must not run that thread until its byte in waiting is 0 again, and
+ * then the call's value for the thread is vradomil_last_answer. Otherwise answers how many sleepers were released (CMP_REQUEUE:
+ * released plus moved), or a refusal: -6, -9, -3, -16, -38, -22, -14, -38, -11 or -110, tested in this order.
+ *
+ * -22: val (but for waits) or the second cap is above 2147483647; val3 of a BITSET command is 0; an address in use is not a multiple
+ * of 4; REQUEUE or CMP_REQUEUE has uaddr equal to uaddr2.
+ *
+ * A refusal changes nothing; a wait refused with -110 leaves the last answer too.
+ */
+int32_t vradomil_call(uint8_t *tables, size_t tables_len, uint8_t *words, size_t words_len, uint8_t process, uint8_t index,
+                      uint32_t op, uint32_t uaddr, uint32_t val, uint8_t flag, uint64_t timeout, uint32_t uaddr2, uint32_t val3);
+
+/*
+ * Writes value to the word at address of a process. Wakes nobody. The tables are read for -9 only.
+ * Answers 0, or -6, -9, -3 (process), -22 (address not a multiple of 4) or -14, and then changes nothing.
+ */
+int32_t vradomil_store(const uint8_t *tables, size_t tables_len, uint8_t *words, size_t words_len, uint8_t process,
+                       uint32_t address, uint32_t value);
+
+/*
+ * Sets the clock and ends every sleep whose deadline is at or before it, with last answer -110.
+ * Answers how many ended, or -6, -9 or -22 (time is before the clock; equal is allowed), and then changes nothing.
+ * The count speaks of every process.
+ */
+int32_t vradomil_clock(uint8_t *tables, size_t tables_len, const uint8_t *words, size_t words_len, uint64_t time);
+
+/*
+ * Ends the sleep of thread (process, index), with last answer -4.
+ * Answers 1; 0 if the thread was running, and nothing changes; or -6, -9 or -3, and nothing changes.
+ */
+int32_t vradomil_interrupt(uint8_t *tables, size_t tables_len, const uint8_t *words, size_t words_len, uint8_t process,
+                           uint8_t index);
+
+/*
+ * Which threads of a process sleep. Changes nothing and is never refused.
+ * Answers waiting + 256 * count + 65536 * lowest; the three helpers below take it apart. A process above 7, and tables that any other
+ * function would answer -9, give 0, 0, 8.
+ */
+uint32_t vradomil_query(const uint8_t *tables, size_t tables_len, uint8_t process);
+
+/* The parts of a query's answer: bit i is set if thread i of the process sleeps .. */
+static inline uint8_t vradomil_query_waiting(uint32_t answer)
+{
+    return (uint8_t)(answer & 255);
+}
+
+/* .. how many bits are set .. */
+static inline uint32_t vradomil_query_count(uint32_t answer)
+{
+    return answer >> 8 & 255;
+}
+
+/* .. and the lowest set bit, 8 if none. */
+static inline uint32_t vradomil_query_lowest(uint32_t answer)
+{
+    return answer >> 16;
+}
+
+/* The answer that a byte of last stands for: 0 woken, -110 timed out, -4 interrupted; 1 if no sleep of the thread has ended. */
+static inline int32_t vradomil_last_answer(uint8_t last)
+{
+    switch (last) {
+    case VRADOMIL_LAST_WOKEN:
+        return 0;
+    case VRADOMIL_LAST_TIMED_OUT:
+        return VRADOMIL_ETIMEDOUT;
+    case VRADOMIL_LAST_INTERRUPTED:
+        return VRADOMIL_EINTR;
+    default:
+        return 1;
+    }
+}
+
+#ifdef __cplusplus
+}
+#endif
+
+#endif
