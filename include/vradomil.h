@@ -74,12 +74,12 @@ extern "C" {
 #define VRADOMIL_WAKE_OP_VAL3(op, oparg, cmp, cmparg) \
     ((uint32_t)(op) << 28 | (uint32_t)(cmp) << 24 | ((uint32_t)(oparg) & 4095) << 12 | ((uint32_t)(cmparg) & 4095))
 
-/* The refusals, in the order in which they are tested; the first that applies answers. The numbers are those of errno.h, negated. */
+/* The refusals, in the order in which they are tested; the first that applies answers. They are errno numbers, negated. */
 #define VRADOMIL_ENXIO (-6)       /* the words are not 32,768 bytes */
 #define VRADOMIL_EBADF (-9)       /* the tables are not 1,296 bytes, have a byte that stands for nothing, or break a table rule */
 #define VRADOMIL_ESRCH (-3)       /* the process or the index is above 7 */
 #define VRADOMIL_EBUSY (-16)      /* the calling thread is asleep */
-#define VRADOMIL_ENOSYS (-38)     /* unknown command or option; in its turn after -14, an undefined operation or comparison of WAKE_OP */
+#define VRADOMIL_ENOSYS (-38)     /* unknown command or option; also, but after -14, an undefined part of WAKE_OP's val3 */
 #define VRADOMIL_EINVAL (-22)     /* an argument that no call may have: see vradomil_call, _store and _clock */
 #define VRADOMIL_EFAULT (-14)     /* an address in use is 4096 or more */
 #define VRADOMIL_EAGAIN (-11)     /* the compared word holds another number */
@@ -149,8 +149,8 @@ int32_t vradomil_fresh(uint8_t *tables, size_t tables_len);
  * then the call's value for the thread is vradomil_last_answer. Otherwise answers how many sleepers were released (CMP_REQUEUE:
  * released plus moved), or a refusal: -6, -9, -3, -16, -38, -22, -14, -38, -11 or -110, tested in this order.
  *
- * -22: val (but for waits) or the second cap is above 2147483647; val3 of a BITSET command is 0; an address in use is not a multiple
- * of 4; REQUEUE or CMP_REQUEUE has uaddr equal to uaddr2.
+ * -22: val (but for waits) or the second cap is above 2147483647; val3 of a BITSET command is 0; an address in use is not a
+ * multiple of 4; REQUEUE or CMP_REQUEUE has uaddr equal to uaddr2.
  *
  * A refusal changes nothing; a wait refused with -110 leaves the last answer too.
  */
@@ -180,8 +180,8 @@ int32_t vradomil_interrupt(uint8_t *tables, size_t tables_len, const uint8_t *wo
 
 /*
  * Which threads of a process sleep. Changes nothing and is never refused.
- * Answers waiting + 256 * count + 65536 * lowest; the three helpers below take it apart. A process above 7, and tables that any other
- * function would answer -9, give 0, 0, 8.
+ * Answers waiting + 256 * count + 65536 * lowest; the three helpers below take it apart. A process above 7, and tables that any
+ * other function would answer -9, give 0, 0, 8.
  */
 uint32_t vradomil_query(const uint8_t *tables, size_t tables_len, uint8_t process);
 
