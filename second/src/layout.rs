@@ -90,25 +90,40 @@ pub fn encode_words(words: &[u32], bytes: &mut [u8]) {
     }
 }
 
-/// One event that is not a query. The words' length comes first, since a call
-/// tests the lent memory before the tables.
-fn apply(tables: &mut [u8], words: &mut [u8], event: &Event) -> i32 {
-    if words.len() != WORD_BYTES {
-        return ENXIO;
+/// One event on what tables stand for (none if they stand for nothing) and on
+/// words of `lent` bytes. The words' length comes first, since a call tests the
+/// lent memory before the tables; a panel query takes no words.
+pub fn step(state: Option<&mut State>, lent: usize, words: &mut [u32], event: &Event) -> Answer {
+    let panel = matches!(event, Event::Query { .. });
+    match state {
+        _ if !panel && lent != WORD_BYTES => Answer::Number(ENXIO),
+        None if panel => Answer::Panel(0, 0, 8),
+        None => Answer::Number(EBADF),
+        Some(state) => model::step(state, words, event),
     }
-    let Some(mut state) = decode(tables) else {
-        return EBADF;
-    };
-    let mut numbers = decode_words(words);
-    let answer = model::step(&mut state, &mut numbers, event);
-    tables.copy_from_slice(&encode(&state));
-    encode_words(&numbers, words);
+}
+
+/// An answer as the one number that a host gets.
+pub fn number(answer: Answer) -> i64 {
     match answer {
-        Answer::Asleep => ASLEEP,
-        Answer::Number(number) => number,
-        // Only a query answers so, and `query` below takes those.
-        Answer::Panel(..) => EBADF,
+        Answer::Asleep => ASLEEP as i64,
+        Answer::Number(number) => number as i64,
+        Answer::Panel(bits, count, lowest) => {
+            bits as i64 + 256 * count as i64 + 65536 * lowest as i64
+        }
     }
+}
+
+/// One event that is not a query.
+fn apply(tables: &mut [u8], words: &mut [u8], event: &Event) -> i32 {
+    let mut state = decode(tables);
+    let mut numbers = decode_words(words);
+    let answer = step(state.as_mut(), words.len(), &mut numbers, event);
+    if let (Some(state), WORD_BYTES) = (state, words.len()) {
+        tables.copy_from_slice(&encode(&state));
+        encode_words(&numbers, words);
+    }
+    number(answer) as i32
 }
 
 pub fn call(tables: &mut [u8], words: &mut [u8], call: &Call) -> i32 {
@@ -127,12 +142,9 @@ pub fn interrupt(tables: &mut [u8], words: &mut [u8], process: u8, index: u8) ->
     apply(tables, words, &Event::Interrupt { process, index })
 }
 
-/// The panel query takes no words; tables that stand for nothing are 0, 0, 8.
+/// The three numbers of a panel query.
 pub fn query(tables: &[u8], process: u8) -> (u8, u32, u32) {
-    let Some(mut state) = decode(tables) else {
-        return (0, 0, 8);
-    };
-    match model::step(&mut state, &mut [], &Event::Query { process }) {
+    match step(decode(tables).as_mut(), 0, &mut [], &Event::Query { process }) {
         Answer::Panel(bits, count, lowest) => (bits, count, lowest),
         _ => (0, 0, 8),
     }

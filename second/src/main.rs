@@ -1,23 +1,14 @@
-//! A second futex kernel, written from the papers alone, so that another can
-//! be compared with it: it replays logs, runs test scripts and makes both.
-
-mod bytes;
-mod generate;
-mod layout;
-mod log;
-mod model;
-mod rng;
-mod script;
-mod selftest;
-mod shorthand;
+//! The program over the second kernel: it replays logs, runs test scripts and
+//! makes both.
 
 use std::io::{self, BufWriter, Read, Write};
 use std::process::ExitCode;
 use std::time::Instant;
 
-use generate::{edges, events, logs, random};
-use model::{State, WORDS};
-use rng::Rng;
+use second::generate::{edges, events, logs, random};
+use second::model::{self, State, WORDS};
+use second::rng::Rng;
+use second::{log, script, selftest};
 
 const USAGE: &str = "usage:
   second replay < LOG

@@ -1,0 +1,12 @@
+//! A second futex kernel, written from the papers alone, so that another can
+//! be compared with it.
+
+pub mod bytes;
+pub mod generate;
+pub mod layout;
+pub mod log;
+pub mod model;
+pub mod rng;
+pub mod script;
+pub mod selftest;
+pub mod shorthand;
