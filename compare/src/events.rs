@@ -1,0 +1,290 @@
+//! Events at random: calls that mostly pass the tests, so that threads sleep,
+//! wake, move and time out, and arguments at the edges of every field.
+
+use second::model::{
+    Call, Event, State, CMP_REQUEUE, REQUEUE, THREADS, WAIT, WAIT_BITSET, WAKE, WAKE_BITSET,
+    WAKE_OP, WORDS_PER_PROCESS,
+};
+use second::rng::Rng;
+
+pub const EDGE_U64: &[u64] = &[
+    0,
+    1,
+    (1 << 31) - 1,
+    1 << 31,
+    (1 << 32) - 1,
+    1 << 32,
+    (1 << 32) + 1,
+    (1 << 32) + (1 << 31),
+    (1 << 63) - 1,
+    1 << 63,
+    u64::MAX - 1,
+    u64::MAX,
+];
+const EDGE_U32: &[u32] = &[
+    0,
+    1,
+    3,
+    4,
+    4092,
+    4094,
+    4095,
+    4096,
+    4097,
+    8192,
+    (1 << 31) - 1,
+    1 << 31,
+    (1 << 31) + 1,
+    u32::MAX - 3,
+    u32::MAX - 1,
+    u32::MAX,
+];
+const EDGE_OPS: &[u32] = &[
+    0,
+    1,
+    2,
+    3,
+    4,
+    5,
+    6,
+    7,
+    8,
+    9,
+    10,
+    11,
+    12,
+    13,
+    14,
+    16,
+    64,
+    127,
+    128,
+    129,
+    131,
+    132,
+    133,
+    137,
+    138,
+    256,
+    257,
+    265,
+    384,
+    512,
+    521,
+    640,
+    65536,
+    1 << 31,
+    u32::MAX,
+];
+const EDGE_U8: &[u8] = &[0, 1, 7, 8, 9, 63, 64, 127, 128, 255];
+/// Few addresses, so that sleepers meet.
+pub const ADDRESSES: &[u32] = &[0, 0, 4, 4, 8, 12, 2048, 4088, 4092];
+pub const MASKS: &[u32] = &[1, 2, 3, 4, 6, 1 << 31, u32::MAX];
+const COMMANDS: &[u32] = &[WAIT, WAIT_BITSET, WAKE, WAKE_BITSET, REQUEUE, CMP_REQUEUE, WAKE_OP];
+const WAKES: &[u32] = &[WAKE, WAKE, WAKE_BITSET, REQUEUE, CMP_REQUEUE, WAKE_OP];
+
+/// What a stretch of events leans to.
+#[derive(Clone, Copy)]
+pub struct Mood {
+    /// Of a hundred calls, how many are waits.
+    waits: u64,
+    /// Of a hundred events, how many have an argument at an edge.
+    edges: u64,
+    /// Of a hundred events, how many are no calls.
+    others: u64,
+    /// Of a hundred wakes, how many take all.
+    all: u64,
+    /// How many processes take part.
+    processes: u64,
+    /// Of a hundred waits, how many have a timeout.
+    timed: u64,
+}
+
+const MOODS: &[Mood] = &[
+    Mood { waits: 50, edges: 10, others: 25, all: 5, processes: 8, timed: 50 },
+    Mood { waits: 60, edges: 5, others: 20, all: 10, processes: 2, timed: 40 },
+    // The list fills up, to 64 in the end,
+    Mood { waits: 97, edges: 2, others: 6, all: 0, processes: 8, timed: 10 },
+    // or is drained by wakes, or by the clock.
+    Mood { waits: 10, edges: 5, others: 15, all: 60, processes: 8, timed: 50 },
+    Mood { waits: 80, edges: 2, others: 40, all: 5, processes: 4, timed: 95 },
+];
+
+/// Each argument at an edge now and then: one to three of them at once.
+pub const EDGES: Mood = Mood { waits: 40, edges: 90, others: 25, all: 10, processes: 8, timed: 60 };
+
+pub fn mood(rng: &mut Rng) -> Mood {
+    rng.pick(MOODS)
+}
+
+/// The next event on these tables and words.
+pub fn next(rng: &mut Rng, mood: Mood, state: &State, words: &[u32]) -> Event {
+    let mut event = if rng.percent(mood.others) {
+        other(rng, mood, state)
+    } else {
+        Event::Call(call(rng, mood, state, words))
+    };
+    if rng.percent(mood.edges) {
+        for _ in 0..1 + rng.below(3) {
+            put_edge(rng, &mut event);
+        }
+    }
+    event
+}
+
+fn other(rng: &mut Rng, mood: Mood, state: &State) -> Event {
+    let process = rng.below(mood.processes) as u8;
+    let index = rng.below(8) as u8;
+    match rng.below(10) {
+        0..=2 => Event::Store { process, address: rng.pick(ADDRESSES), value: small(rng) },
+        3..=5 => Event::Clock { time: time_near(rng, state) },
+        6..=7 => Event::Interrupt { process, index },
+        _ => Event::Query { process },
+    }
+}
+
+/// Mostly small, so that words are equal often.
+fn small(rng: &mut Rng) -> u32 {
+    if rng.percent(90) {
+        rng.below(4) as u32
+    } else {
+        rng.pick(EDGE_U32)
+    }
+}
+
+/// A time at a sleeper's deadline, just before or after it, or near the clock.
+fn time_near(rng: &mut Rng, state: &State) -> u64 {
+    let thread = &state.threads[rng.below(THREADS as u64) as usize];
+    match rng.below(20) {
+        0..=5 if thread.timed => thread.deadline - 1 + rng.below(2),
+        0..=5 => state.clock,
+        6..=7 => state.clock.saturating_sub(1 + rng.below(3)),
+        8 => state.clock,
+        _ => state.clock.saturating_add(rng.below(6)),
+    }
+}
+
+/// A caller that can call: the first running thread after a random one. Now
+/// and then any thread, so that sleepers call too.
+fn caller(rng: &mut Rng, mood: Mood, state: &State) -> (u8, u8) {
+    let threads = 8 * mood.processes as usize;
+    let mut number = rng.below(threads as u64) as usize;
+    if !rng.percent(3) {
+        for _ in 0..threads {
+            if !state.threads[number].waiting {
+                break;
+            }
+            number = (number + 1) % threads;
+        }
+    }
+    (number as u8 / 8, number as u8 % 8)
+}
+
+fn call(rng: &mut Rng, mood: Mood, state: &State, words: &[u32]) -> Call {
+    let (process, index) = caller(rng, mood, state);
+    let command =
+        if rng.percent(mood.waits) { rng.pick(&[WAIT, WAIT_BITSET]) } else { rng.pick(WAKES) };
+    let uaddr = rng.pick(ADDRESSES);
+    let mut call = Call {
+        process,
+        index,
+        op: command | if rng.percent(30) { 128 } else { 0 },
+        uaddr,
+        // What a command doesn't use is junk, to show that nobody looks.
+        val: rng.u32(),
+        flag: rng.u64() as u8,
+        timeout: rng.u64(),
+        uaddr2: rng.u32(),
+        val3: rng.u32(),
+    };
+    let word = words[WORDS_PER_PROCESS * process as usize + uaddr as usize / 4];
+    match command {
+        WAIT | WAIT_BITSET => fit_wait(rng, mood, state.clock, word, &mut call),
+        WAKE | WAKE_BITSET => call.val = cap(rng, mood),
+        _ => fit_second(rng, mood, word, &mut call),
+    }
+    if matches!(command, WAIT_BITSET | WAKE_BITSET) {
+        call.val3 = rng.pick(MASKS);
+    }
+    call
+}
+
+fn fit_wait(rng: &mut Rng, mood: Mood, clock: u64, word: u32, call: &mut Call) {
+    call.val = if rng.percent(92) { word } else { small(rng) };
+    call.flag = if rng.percent(mood.timed) { rng.pick(&[1, 1, 1, 2, 255]) } else { 0 };
+    if call.flag != 0 && !rng.percent(3) {
+        let ahead = if rng.percent(6) { 0 } else { 1 + rng.below(30) };
+        let relative = call.op & 127 == WAIT;
+        call.timeout = if relative { ahead } else { clock.saturating_add(ahead) };
+    }
+}
+
+fn cap(rng: &mut Rng, mood: Mood) -> u32 {
+    if rng.percent(mood.all) {
+        rng.pick(&[i32::MAX as u32, 64, 8])
+    } else {
+        rng.below(4) as u32
+    }
+}
+
+fn fit_second(rng: &mut Rng, mood: Mood, word: u32, call: &mut Call) {
+    call.val = cap(rng, mood);
+    call.uaddr2 = rng.pick(ADDRESSES);
+    // Only the low 32 bits are the second cap.
+    call.timeout = cap(rng, mood) as u64 + (rng.below(3) << 32);
+    match call.op & 127 {
+        WAKE_OP => call.val3 = operation(rng),
+        CMP_REQUEUE => call.val3 = if rng.percent(90) { word } else { small(rng) },
+        _ => {}
+    }
+}
+
+/// WAKE_OP's val3: mostly defined, small and edge operands.
+fn operation(rng: &mut Rng) -> u32 {
+    let op = if rng.percent(95) { rng.below(5) + 8 * rng.below(2) } else { rng.below(16) };
+    let cmp = if rng.percent(95) { rng.below(6) } else { rng.below(16) };
+    let oparg = rng.pick(&[0, 1, 2, 3, 31, 32, 33, 2047, 2048, 4095]);
+    let cmparg = rng.pick(&[0, 1, 2, 3, 2047, 2048, 4095]);
+    (op as u32) << 28 | (cmp as u32) << 24 | oparg << 12 | cmparg
+}
+
+/// Puts one argument at an edge.
+fn put_edge(rng: &mut Rng, event: &mut Event) {
+    match event {
+        Event::Call(call) => match rng.below(10) {
+            0 => call.process = rng.pick(EDGE_U8),
+            1 => call.index = rng.pick(EDGE_U8),
+            2 => call.op = rng.pick(EDGE_OPS),
+            3 => call.op = rng.pick(COMMANDS) | 1 << rng.below(32),
+            4 => call.uaddr = rng.pick(EDGE_U32),
+            5 => call.val = rng.pick(EDGE_U32),
+            6 => call.flag = rng.pick(EDGE_U8),
+            7 => call.timeout = rng.pick(EDGE_U64),
+            8 => call.uaddr2 = if rng.percent(25) { call.uaddr } else { rng.pick(EDGE_U32) },
+            _ => call.val3 = if rng.percent(50) { rng.pick(EDGE_U32) } else { rng.u32() },
+        },
+        Event::Store { process, address, value } => match rng.below(3) {
+            0 => *process = rng.pick(EDGE_U8),
+            1 => *address = rng.pick(EDGE_U32),
+            _ => *value = rng.pick(EDGE_U32),
+        },
+        // The clock can't come back from an edge.
+        Event::Clock { time } if rng.percent(5) => *time = rng.pick(EDGE_U64),
+        Event::Clock { .. } => {}
+        Event::Interrupt { process, index } => match rng.below(2) {
+            0 => *process = rng.pick(EDGE_U8),
+            _ => *index = rng.pick(EDGE_U8),
+        },
+        Event::Query { process } => *process = rng.pick(EDGE_U8),
+    }
+}
+
+/// Words at random: most are small, so that they are equal often. Eight come
+/// from one random number, for speed.
+pub fn fill_words(rng: &mut Rng, words: &mut [u32]) {
+    for eight in words.chunks_mut(8) {
+        for (word, byte) in eight.iter_mut().zip(rng.u64().to_le_bytes()) {
+            *word = if byte < 240 { byte as u32 % 4 } else { EDGE_U32[byte as usize % 16] };
+        }
+    }
+}

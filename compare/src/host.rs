@@ -1,0 +1,90 @@
+//! The library's functions, as include/vradomil.h declares them.
+
+use second::model::{Call, Event};
+
+extern "C" {
+    fn vradomil_fresh(tables: *mut u8, tables_len: usize) -> i32;
+    fn vradomil_call(
+        tables: *mut u8,
+        tables_len: usize,
+        words: *mut u8,
+        words_len: usize,
+        process: u8,
+        index: u8,
+        op: u32,
+        uaddr: u32,
+        val: u32,
+        flag: u8,
+        timeout: u64,
+        uaddr2: u32,
+        val3: u32,
+    ) -> i32;
+    fn vradomil_store(
+        tables: *const u8,
+        tables_len: usize,
+        words: *mut u8,
+        words_len: usize,
+        process: u8,
+        address: u32,
+        value: u32,
+    ) -> i32;
+    fn vradomil_clock(
+        tables: *mut u8,
+        tables_len: usize,
+        words: *const u8,
+        words_len: usize,
+        time: u64,
+    ) -> i32;
+    fn vradomil_interrupt(
+        tables: *mut u8,
+        tables_len: usize,
+        words: *const u8,
+        words_len: usize,
+        process: u8,
+        index: u8,
+    ) -> i32;
+    fn vradomil_query(tables: *const u8, tables_len: usize, process: u8) -> u32;
+}
+
+pub fn fresh(tables: &mut [u8]) -> i64 {
+    // SAFETY (here and below): pointer and length are those of a slice.
+    unsafe { vradomil_fresh(tables.as_mut_ptr(), tables.len()) as i64 }
+}
+
+/// One event; the number that the library answers.
+pub fn step(tables: &mut [u8], words: &mut [u8], event: &Event) -> i64 {
+    let (t, t_len) = (tables.as_mut_ptr(), tables.len());
+    let (w, w_len) = (words.as_mut_ptr(), words.len());
+    match *event {
+        Event::Call(ref call) => run_call(tables, words, call),
+        Event::Store { process, address, value } => unsafe {
+            vradomil_store(t, t_len, w, w_len, process, address, value) as i64
+        },
+        Event::Clock { time } => unsafe { vradomil_clock(t, t_len, w, w_len, time) as i64 },
+        Event::Interrupt { process, index } => unsafe {
+            vradomil_interrupt(t, t_len, w, w_len, process, index) as i64
+        },
+        Event::Query { process } => unsafe { vradomil_query(t, t_len, process) as i64 },
+    }
+}
+
+fn run_call(tables: &mut [u8], words: &mut [u8], call: &Call) -> i64 {
+    let answer = unsafe {
+        vradomil_call(
+            tables.as_mut_ptr(),
+            tables.len(),
+            words.as_mut_ptr(),
+            words.len(),
+            call.process,
+            call.index,
+            call.op,
+            call.uaddr,
+            call.val,
+            call.flag,
+            call.timeout,
+            call.uaddr2,
+            call.val3,
+        )
+    };
+    answer as i64
+}

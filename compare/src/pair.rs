@@ -1,0 +1,161 @@
+//! Both kernels on the same tables and words: one event at a time, and all
+//! that it leaves compared.
+
+use std::fmt::Write;
+
+use second::bytes::u32_at;
+use second::layout::{self, TABLE_BYTES};
+use second::model::{Event, State, WORDS, WORDS_PER_PROCESS};
+use second::rng::Rng;
+
+use crate::events;
+use crate::host;
+use crate::room::Room;
+
+pub struct Pair {
+    /// The second kernel's side: what the tables stand for, if anything, their
+    /// bytes now and before the last event, and the words.
+    pub state: Option<State>,
+    bytes: Vec<u8>,
+    before: Vec<u8>,
+    pub words: Vec<u32>,
+    /// The library's side.
+    tables: Room,
+    lent: Room,
+    /// Compare all words after every event, not only those near the event's.
+    pub careful: bool,
+}
+
+impl Pair {
+    pub fn new(careful: bool) -> Pair {
+        Pair {
+            state: None,
+            bytes: Vec::new(),
+            before: Vec::new(),
+            words: vec![0; WORDS],
+            tables: Room::new(),
+            lent: Room::new(),
+            careful,
+        }
+    }
+
+    /// Gives both sides words. The library is lent `length` bytes of them, at
+    /// an address that is `shift` modulo 16.
+    pub fn set_words(&mut self, rng: &mut Rng, length: usize, shift: usize) {
+        events::fill_words(rng, &mut self.words);
+        self.lent.lay_out(length, shift);
+        for (place, word) in self.lent.lend().chunks_mut(4).zip(&self.words) {
+            place.copy_from_slice(&word.to_le_bytes()[..place.len()]);
+        }
+    }
+
+    /// Gives both sides tables as bytes, of any length.
+    pub fn set_tables(&mut self, bytes: &[u8], shift: usize) {
+        self.state = layout::decode(bytes);
+        self.bytes.clear();
+        self.bytes.extend_from_slice(bytes);
+        self.tables.lay_out(bytes.len(), shift);
+        self.tables.lend().copy_from_slice(bytes);
+    }
+
+    /// Fresh tables laid down by the library, in a room of any length.
+    pub fn fresh(&mut self, length: usize, shift: usize) -> Result<i64, String> {
+        self.set_tables(&vec![0x5A; length], shift);
+        self.before = self.bytes.clone();
+        let mut due = -9;
+        if length == TABLE_BYTES {
+            due = 0;
+            self.state = Some(State::fresh());
+            self.bytes = layout::encode(&State::fresh()).to_vec();
+        }
+        let found = host::fresh(self.tables.lend());
+        if found == due && self.tables_agree() {
+            return Ok(due);
+        }
+        Err(self.report("vradomil_fresh", due, found))
+    }
+
+    /// One event. Gives the number, or a text that shows the difference.
+    pub fn step(&mut self, event: &Event) -> Result<i64, String> {
+        let lent = self.lent.get().len();
+        let due = layout::number(layout::step(self.state.as_mut(), lent, &mut self.words, event));
+        let found = host::step(self.tables.lend(), self.lent.lend(), event);
+        std::mem::swap(&mut self.before, &mut self.bytes);
+        self.bytes.clear();
+        match &self.state {
+            Some(state) => self.bytes.extend_from_slice(&layout::encode(state)),
+            None => self.bytes.extend_from_slice(&self.before),
+        }
+        let words_agree =
+            if self.careful { self.words_agree() } else { self.words_near_agree(event) };
+        if found == due && self.tables_agree() && words_agree {
+            return Ok(due);
+        }
+        Err(self.report(&format!("{event:?}"), due, found))
+    }
+
+    fn tables_agree(&self) -> bool {
+        self.tables.get() == self.bytes && self.tables.guards_hold()
+    }
+
+    /// All words that are lent, and the bytes around them.
+    pub fn words_agree(&self) -> bool {
+        self.first_other_word().is_none() && self.lent.guards_hold()
+    }
+
+    fn first_other_word(&self) -> Option<usize> {
+        let words = self.lent.get().chunks_exact(4).zip(&self.words);
+        words.zip(0..).find(|((lent, word), _)| u32_at(lent, 0) != **word).map(|(_, at)| at)
+    }
+
+    /// The words at the event's addresses and their neighbours, in the process
+    /// of the event and the one after it.
+    fn words_near_agree(&self, event: &Event) -> bool {
+        let lent = self.lent.get();
+        places(event).into_iter().flatten().all(|place| {
+            [WORDS - 1, 0, 1, WORDS_PER_PROCESS].into_iter().all(|step| {
+                let number = (place + step) % WORDS;
+                lent.len() < 4 * number + 4 || u32_at(lent, 4 * number) == self.words[number]
+            })
+        })
+    }
+
+    /// All that is needed to see a difference again.
+    fn report(&self, event: &str, due: i64, found: i64) -> String {
+        let mut text = format!("event: {event}\nwords lent: {} bytes\n", self.lent.get().len());
+        let _ = write!(text, "tables before ({} bytes):", self.before.len());
+        for (at, byte) in self.before.iter().enumerate() {
+            let _ = if at % 64 == 0 { write!(text, "\n{at:5}: ") } else { Ok(()) };
+            let _ = write!(text, "{byte:02x}");
+        }
+        let _ = write!(text, "\nanswer: second {due}, library {found}\n");
+        for (at, (a, b)) in self.bytes.iter().zip(self.tables.get()).enumerate() {
+            if a != b {
+                let _ = writeln!(text, "tables differ at {at}: second {a:02x}, library {b:02x}");
+            }
+        }
+        if let Some(at) = self.first_other_word() {
+            let _ = writeln!(text, "words differ at word {at}: second {:08x}", self.words[at]);
+        }
+        if !self.tables.guards_hold() || !self.lent.guards_hold() {
+            text.push_str("bytes outside the tables or the words were changed\n");
+        }
+        text
+    }
+}
+
+/// Which words an event names.
+fn places(event: &Event) -> [Option<usize>; 2] {
+    let place = |process: u8, address: u32| {
+        Some(
+            WORDS_PER_PROCESS * (process as usize % 8) + (address / 4) as usize % WORDS_PER_PROCESS,
+        )
+    };
+    match *event {
+        Event::Call(ref call) => {
+            [place(call.process, call.uaddr), place(call.process, call.uaddr2)]
+        }
+        Event::Store { process, address, .. } => [place(process, address), None],
+        _ => [None, None],
+    }
+}
