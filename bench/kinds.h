@@ -1,0 +1,37 @@
+/* The events that are measured, and tables to measure them on. */
+#ifndef KINDS_H
+#define KINDS_H
+
+#include "../include/vradomil.h"
+
+enum function { CALL, STORE, CLOCK, INTERRUPT, QUERY };
+
+struct event {
+    enum function function;
+    uint8_t process, index, flag;
+    uint32_t op, uaddr, val, uaddr2, val3;
+    uint64_t time;
+};
+
+/* A case: tables and one event on them. */
+struct sample {
+    struct vradomil_tables tables;
+    struct event event;
+};
+
+struct kind {
+    const char *name;
+    int fewest;         /* it makes sense from so many sleepers on */
+    int64_t least, most; /* the answers that it must get */
+};
+
+enum { KINDS = 13 };
+extern const struct kind kinds[KINDS];
+
+/* The words that the events read hold this number. */
+enum { WORD_VALUE = 7 };
+
+/* One random case of a kind, with so many sleepers. */
+void make_sample(struct sample *s, int kind, int sleepers);
+
+#endif
