@@ -12,7 +12,7 @@
 #include <time.h>
 
 /* A batch's tables fit the first cache; the samples differ enough that no branch is foreseen by heart. */
-enum { BATCH = 24, SAMPLES = 40 * BATCH, ROUNDS = 600 };
+enum { BATCH = 24, SAMPLES = 40 * BATCH, ROUNDS = 2000 };
 
 struct kernel {
     int32_t (*call)(uint8_t *, size_t, uint8_t *, size_t, uint8_t, uint8_t, uint32_t, uint32_t, uint32_t, uint8_t, uint64_t,
