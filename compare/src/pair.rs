@@ -19,6 +19,8 @@ pub struct Pair {
     bytes: Vec<u8>,
     before: Vec<u8>,
     pub words: Vec<u32>,
+    /// The words that the last event named, by number, as they were before it.
+    named: [Option<(usize, u32)>; 2],
     /// The library's side.
     tables: Room,
     lent: Room,
@@ -33,6 +35,7 @@ impl Pair {
             bytes: Vec::new(),
             before: Vec::new(),
             words: vec![0; WORDS],
+            named: [None; 2],
             tables: Room::new(),
             lent: Room::new(),
             careful,
@@ -78,6 +81,7 @@ impl Pair {
     /// One event. Gives the number, or a text that shows the difference.
     pub fn step(&mut self, event: &Event) -> Result<i64, String> {
         let lent = self.lent.get().len();
+        self.named = places(event).map(|place| place.map(|number| (number, self.words[number])));
         let due = layout::number(layout::step(self.state.as_mut(), lent, &mut self.words, event));
         let found = host::step(self.tables.lend(), self.lent.lend(), event);
         std::mem::swap(&mut self.before, &mut self.bytes);
@@ -123,6 +127,9 @@ impl Pair {
     /// All that is needed to see a difference again.
     fn report(&self, event: &str, due: i64, found: i64) -> String {
         let mut text = format!("event: {event}\nwords lent: {} bytes\n", self.lent.get().len());
+        for (number, word) in self.named.into_iter().flatten() {
+            let _ = writeln!(text, "word {number} before: {word:#x}");
+        }
         let _ = write!(text, "tables before ({} bytes):", self.before.len());
         for (at, byte) in self.before.iter().enumerate() {
             let _ = if at % 64 == 0 { write!(text, "\n{at:5}: ") } else { Ok(()) };
