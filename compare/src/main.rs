@@ -10,7 +10,7 @@ mod tally;
 
 use std::process::ExitCode;
 
-use second::layout::{TABLE_BYTES, WORD_BYTES};
+use second::layout::{self, TABLE_BYTES, WORD_BYTES};
 use second::model::{Event, State};
 use second::rng::Rng;
 
@@ -86,9 +86,8 @@ impl Run<'_> {
         }
     }
 
-    fn set_tables(&mut self, bytes: &[u8]) {
+    fn set_tables(&mut self, bytes: &[u8], sound: bool) {
         self.pair.set_tables(bytes, self.shift);
-        let sound = self.pair.state.as_ref().is_some_and(State::rules_hold);
         if sound {
             self.tally.sound += 1;
         } else {
@@ -97,7 +96,7 @@ impl Run<'_> {
     }
 
     fn set_state(&mut self, state: &State) {
-        self.set_tables(&second::layout::encode(state));
+        self.set_tables(&layout::encode(state), true);
     }
 
     fn step(&mut self, event: &Event) -> Result<(), String> {
@@ -176,7 +175,8 @@ impl Run<'_> {
                 4..=6 => tables::change_byte(&mut self.rng, &state),
                 _ => tables::random_bytes(&mut self.rng),
             };
-            self.set_tables(&bytes);
+            let sound = layout::decode(&bytes).is_some_and(|state| state.rules_hold());
+            self.set_tables(&bytes, sound);
             self.event(events::EDGES, Some(&state))?;
         }
         Ok(())
@@ -184,17 +184,17 @@ impl Run<'_> {
 
     /// Tables and words of wrong lengths, one of them or both.
     fn on_lengths(&mut self) -> Result<(), String> {
-        for _ in 0..STRETCH / 50 {
+        for _ in 0..STRETCH / 100 {
             let lengths = &[0, 1, 3, 4, 16384, 32764, 32767, 32769, 32772, 65536];
             let good = self.rng.percent(40);
             let length = if good { WORD_BYTES } else { self.rng.pick(lengths) };
             self.new_words(length);
             let sleepers = tables::sleepers(&mut self.rng);
             let state = tables::sound(&mut self.rng, sleepers);
-            for _ in 0..49 {
+            for _ in 0..99 {
                 if good || self.rng.percent(30) {
                     let bytes = tables::wrong_length(&mut self.rng, &state);
-                    self.set_tables(&bytes);
+                    self.set_tables(&bytes, false);
                 } else {
                     self.set_state(&state);
                 }

@@ -85,10 +85,10 @@ impl Pair {
         let due = layout::number(layout::step(self.state.as_mut(), lent, &mut self.words, event));
         let found = host::step(self.tables.lend(), self.lent.lend(), event);
         std::mem::swap(&mut self.before, &mut self.bytes);
-        self.bytes.clear();
-        match &self.state {
-            Some(state) => self.bytes.extend_from_slice(&layout::encode(state)),
-            None => self.bytes.extend_from_slice(&self.before),
+        self.bytes.resize(self.before.len(), 0);
+        match (&self.state, self.bytes.first_chunk_mut()) {
+            (Some(state), Some(bytes)) => layout::encode_into(state, bytes),
+            _ => self.bytes.copy_from_slice(&self.before),
         }
         let words_agree =
             if self.careful { self.words_agree() } else { self.words_near_agree(event) };

@@ -65,18 +65,23 @@ fn yes_or_no(byte: u8) -> Option<bool> {
 /// The bytes of tables.
 pub fn encode(state: &State) -> [u8; TABLE_BYTES] {
     let mut bytes = [0; TABLE_BYTES];
-    put_u64(&mut bytes, 0, state.clock);
-    put_u64(&mut bytes, COUNT, state.count);
+    encode_into(state, &mut bytes);
+    bytes
+}
+
+/// The same, into bytes that are there already.
+pub fn encode_into(state: &State, bytes: &mut [u8; TABLE_BYTES]) {
+    put_u64(bytes, 0, state.clock);
+    put_u64(bytes, COUNT, state.count);
     bytes[LIST..LIST + THREADS].copy_from_slice(&state.list);
     for (number, thread) in state.threads.iter().enumerate() {
         bytes[WAITING + number] = thread.waiting as u8;
         bytes[TIMED + number] = thread.timed as u8;
         bytes[LAST + number] = thread.last;
-        put_u32(&mut bytes, UADDR + 4 * number, thread.uaddr);
-        put_u32(&mut bytes, BITSET + 4 * number, thread.bitset);
-        put_u64(&mut bytes, DEADLINE + 8 * number, thread.deadline);
+        put_u32(bytes, UADDR + 4 * number, thread.uaddr);
+        put_u32(bytes, BITSET + 4 * number, thread.bitset);
+        put_u64(bytes, DEADLINE + 8 * number, thread.deadline);
     }
-    bytes
 }
 
 /// Words from bytes, each little-endian.
