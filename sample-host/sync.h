@@ -13,7 +13,7 @@
 void mutex_lock(struct host *h, uint32_t mutex);
 void mutex_unlock(struct host *h, uint32_t mutex);
 
-/* A condition's word counts its signals. All three are called with the mutex locked. */
+/* A condition's word counts its signals. Both are called with the mutex locked. */
 void cond_wait(struct host *h, uint32_t cond, uint32_t mutex);
 void cond_broadcast(struct host *h, uint32_t cond, uint32_t mutex);
 
