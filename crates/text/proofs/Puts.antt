@@ -1,7 +1,7 @@
 -- Texts written one behind the other.
 use mathlib.Core.Path.{_≡_, refl, ap, _∙_, subst}
 use mathlib.Core.List.{List, [], _∷_, _++_}
-use Prim.Native.Nat.{ℕ, _+_}
+use Prim.Native.Nat.{ℕ, _+_, _≤_}
 use native.Mathlib.Omega.{arith}
 use native.Mathlib.Numerals.{add-one}
 use lib.ListN.{set, length-append}
@@ -9,15 +9,20 @@ use lib.Seq.{sets}
 use Rattle.lists.proofs.Stores.{sets-append}
 use Rattle.text.specs.Text.{Puts}
 
+-- a text behind a text
+pub puts-append : {room more k : ℕ} {text next before : List ℕ} {j r : ℕ} {mid after : List ℕ} → Puts room k text before j mid → Puts more j next mid r after
+    → Puts (room + more) k (text ++ next) before r after
+puts-append {k = k} {text = text} {next = next} {before = before} h g =
+    record {
+      next = rw (length-append text next) (omega (arith, h .next, g .next));
+      within = omega (arith, h .within, g .within);
+      bytes = g .bytes ∙ (λ i. sets (h .bytes i) (h .next i) next) ∙ sets-append before k text next;
+    }
+
 -- one byte behind a text
 pub puts-then : (room k : ℕ) (text before : List ℕ) (j v : ℕ) (mid : List ℕ) → Puts room k text before j mid
     → Puts (room + 1) k (text ++ (v ∷ [])) before (j + 1) (set mid j v)
-puts-then room k text before j v mid h =
-    record {
-      next = rw (length-append text (v ∷ [])) (omega (arith, h .next));
-      within = omega (arith, h .within);
-      bytes = (λ i. set (h .bytes i) (h .next i) v) ∙ sets-append before k text (v ∷ []);
-    }
+puts-then room k text before j v mid h = puts-append h (record { next = refl; within = omega arith; bytes = refl })
 
 -- one byte before a text
 pub puts-after : (room k v : ℕ) (text before : List ℕ) (r : ℕ) (after : List ℕ) → Puts room (k + 1) text (set before k v) r after
@@ -32,9 +37,9 @@ puts-after room k v text before r after h =
 pub puts-same : {room k : ℕ} {text other before : List ℕ} {r : ℕ} {after : List ℕ} → text ≡ other → Puts room k text before r after → Puts room k other before r after
 puts-same {room = room} {k = k} {before = before} {r = r} {after = after} e h = subst (λ t. Puts room k t before r after) e h
 
--- more room than is needed
-pub puts-within : {room k : ℕ} {text before : List ℕ} {r : ℕ} {after : List ℕ} → Puts room k text before r after → Puts (room + 1) k text before r after
-puts-within h = record { next = h .next; within = omega (arith, h .within); bytes = h .bytes }
+-- the same, with other room
+pub puts-within : {room k : ℕ} {text before : List ℕ} {r : ℕ} {after : List ℕ} (other : ℕ) → r ≤ k + other → Puts room k text before r after → Puts other k text before r after
+puts-within other w h = record { next = h .next; within = w; bytes = h .bytes }
 
 -- nothing is written
 pub puts-nothing : (room : ℕ) {k : ℕ} {before : List ℕ} → Puts room k [] before k before

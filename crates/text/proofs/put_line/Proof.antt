@@ -50,7 +50,7 @@ returns-2 : tie.Need-returns-2
 unfolding lineOf
 returns-2 c =
     let p = c .before .before in
-    rw (p .before .before .before .a .given .1) (puts-within (p .put-count .ensures))
+    rw (p .before .before .before .a .given .1) (puts-within lineRoom (omega (arith, p .put-count .ensures .within)) (p .put-count .ensures))
 
 same-length-3 : tie.Need-same-length-3
 same-length-3 c = search needs
