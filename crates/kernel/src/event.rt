@@ -16,20 +16,18 @@ use rules::answer::Panel;
 use rules::answer::Verdict;
 use rules::event::Event;
 use tables::LastAnswer;
+use tables::PROCESS_BYTES;
 use tables::PROCESSES;
 use tables::State;
 use tables::THREADS;
 use tables::THREADS_PER_PROCESS;
+use tables::WORD_BYTES;
 use tables::WORDS;
 use tables::check::tables_ok;
 use verdicts::command::thread_index;
 use verdicts::command::word_index;
 use verdicts::verdict::no_thread;
 use verdicts::verdict::row;
-
-const WORD_BYTES: u32 = 4;
-
-const PROCESS_BYTES: u32 = 4096;
 
 // A store: one word is written, and nobody wakes.
 pub fn store(s: State, words: &mut [u32], process: u8, address: u32, value: u32) -> Answered

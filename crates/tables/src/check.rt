@@ -9,15 +9,12 @@ ghost use Rattle.tables.specs.Sizes.{threads, noEntry};
 ghost use Rattle.tables.specs.Tables.{threadOf, recordOk, recordsOk, tablesOk};
 ghost use Rattle.tables.specs.Steps.{flagged, SeenIn};
 use crate::NO_ENTRY;
+use crate::PROCESS_BYTES;
 use crate::State;
 use crate::THREADS;
 use crate::Thread;
+use crate::WORD_BYTES;
 use crate::queue::index_of;
-
-// Every address of a process is below this, and a multiple of WORD_BYTES.
-const PROCESS_BYTES: u32 = 4096;
-
-const WORD_BYTES: u32 = 4;
 
 fn record_ok(t: Thread, now: u64) -> bool
     ensures { λ r. ⌜ r ≡ recordOk now t ⌝ }

@@ -1,7 +1,7 @@
 // Tables: what the kernel keeps, a clock, a record for each thread and the arrival list with its count; their rules and changes. It stands on lists.
 ghost use mathlib.Core.Path.{_≡_};
 ghost use mathlib.Core.Bool.{true, false, _&&_, _||_};
-ghost use Prim.Native.Nat.{ℕ, _+_, _≤_, _<_};
+ghost use Prim.Native.Nat.{_+_, _<_};
 ghost use lib.ListN.{take};
 ghost use lib.Dec.{eqb};
 ghost use Rattle.tables.specs.Sizes.{processes, threads};
@@ -20,6 +20,12 @@ pub const THREADS: usize = PROCESSES * THREADS_PER_PROCESS;
 pub const WORDS_PER_PROCESS: usize = 1024;
 
 pub const WORDS: usize = PROCESSES * WORDS_PER_PROCESS;
+
+pub const WORD_BYTES: u32 = 4;
+
+// Every address of a process is below this, and a multiple of WORD_BYTES.
+pub const PROCESS_BYTES: u32 = WORD_BYTES * (WORDS_PER_PROCESS as u32);
+
 // The entry of the arrival list that names no thread.
 pub const NO_ENTRY: u8 = 255;
 

@@ -2,16 +2,16 @@
 ghost use mathlib.Core.Path.{_≡_};
 ghost use mathlib.Core.Bool.{cond};
 ghost use Prim.Native.Nat.{_+_, _-_, _*_, _<_, min};
-ghost use lib.ListN.{length};
-ghost use Rattle.tables.specs.Sizes.{threads, processes, memoryWords, timeLimit, matchAny};
-ghost use Rattle.rules.specs.Commands.{numbered, commandNumber, commandOf, notImplemented, uses};
-ghost use Rattle.rules.specs.Calls.{secondCap, timeoutGiven, deadlineOf, maskOf};
+ghost use Rattle.tables.specs.Sizes.{timeLimit, matchAny};
+ghost use Rattle.rules.specs.Commands.{numbered, commandOf, notImplemented, uses};
+ghost use Rattle.rules.specs.Calls.{secondCap, timeoutGiven};
 ghost use Rattle.verdicts.specs.Places.{ThreadAt, WordAt};
 use rules::event::Call;
 use rules::event::Command;
 use rules::event::Uses;
 use tables::PROCESSES;
 use tables::THREADS_PER_PROCESS;
+use tables::WORD_BYTES;
 use tables::WORDS_PER_PROCESS;
 
 const PRIVATE_BIT: u32 = 128;
@@ -142,5 +142,5 @@ pub fn word_index(process: u8, address: u32) -> usize
     ensures { λ r. ⌜ WordAt process address r ⌝ }
 {
     (process as usize) % PROCESSES * WORDS_PER_PROCESS
-        + ((address / 4) as usize) % WORDS_PER_PROCESS
+        + ((address / WORD_BYTES) as usize) % WORDS_PER_PROCESS
 }

@@ -14,15 +14,13 @@ use crate::wakeop::undefined_op;
 use rules::answer::Errno;
 use rules::answer::Verdict;
 use rules::event::Call;
+use tables::PROCESS_BYTES;
 use tables::PROCESSES;
 use tables::THREADS;
 use tables::THREADS_PER_PROCESS;
+use tables::WORD_BYTES;
 
 const MAX_CAP: u32 = 2147483647;
-
-const WORD_BYTES: u32 = 4;
-
-const PROCESS_BYTES: u32 = 4096;
 
 // A row of the table, before the rows below it.
 pub fn row(x: Errno, applies: bool, below: Verdict) -> Verdict

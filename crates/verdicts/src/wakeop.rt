@@ -1,9 +1,8 @@
 // WAKE_OP: what its val3 stands for.
 ghost use mathlib.Core.Path.{_≡_};
-ghost use mathlib.Core.Bool.{cond};
 ghost use Prim.Native.Nat.{_+_, _%_, _^_, _<_};
 ghost use Rattle.tables.specs.Sizes.{wordLimit};
-ghost use Rattle.rules.specs.WakeOp.{opField, cmpField, opArg, cmpArg, opCode, undefinedOp, operand, newWord, compares};
+ghost use Rattle.rules.specs.WakeOp.{opField, cmpField, opArg, undefinedOp, operand, newWord, compares};
 
 fn op_field(v: u32) -> u32
     ensures { λ r. ⌜ r ≡ opField v ⌝ }
