@@ -1,4 +1,4 @@
-// Verdicts: what the numbers of a call mean, and which row of the table of answers refuses it. It stands on rules.
+// Verdicts: which row of the table of answers refuses a call. It stands on commands and operations, and passes them on.
 pub mod command;
 pub mod verdict;
 pub mod wakeop;
