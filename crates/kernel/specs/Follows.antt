@@ -9,14 +9,12 @@ use Rattle.rules.specs.declared.event.Call.{Call}
 use Rattle.rules.specs.declared.event.Event.{Event}
 use Rattle.kernel.specs.declared.Answered.{Answered}
 use Rattle.tables.specs.Sizes.{processes, threadsPerProcess, threads, bytesPerProcess, memoryWords}
-use Rattle.tables.specs.Tables.{World, tablesOk}
+use Rattle.tables.specs.Tables.{tablesOk}
 use Rattle.rules.specs.Answers.{Outcome}
 use Rattle.rules.specs.Commands.{commandOf, isUnknown, uses}
 use Rattle.rules.specs.Events.{step}
-
 -- the tables and the lent words
-abbrev pub world : State → List ℕ → World
-world s words = record { state = s; words = words }
+pub use Rattle.refusals.specs.Tested.{world}
 
 abbrev pub answered : Outcome → Answered
 answered o = record { answer = o .answer; state = o .world .state }

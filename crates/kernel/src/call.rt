@@ -3,7 +3,7 @@ ghost use mathlib.Core.Path.{_≡_};
 ghost use mathlib.Core.Bool.{cond};
 ghost use mathlib.Core.List.{List, []};
 ghost use Prim.Native.Nat.{ℕ, _≤_, _<_};
-ghost use lib.ListN.{length, getD};
+ghost use lib.ListN.{length};
 ghost use Rattle.tables.specs.Sizes.{bytesPerProcess, memoryWords};
 ghost use Rattle.rules.specs.declared.event.Event.the-variants.{Call as CallEvent};
 ghost use Rattle.tables.specs.Tables.{wordAt};
@@ -14,14 +14,12 @@ ghost use Rattle.kernel.specs.Follows.{world, answered, Ready, Granted, 
 use crate::Answered;
 use crate::counted;
 use crate::refused;
+use refusals::of_call;
 use rules::answer::Answer;
-use rules::answer::Errno;
 use rules::answer::Verdict;
 use rules::event::Call;
 use tables::LastAnswer;
 use tables::State;
-use tables::WORDS;
-use tables::check::tables_ok;
 use verdicts::command::deadline_of;
 use verdicts::command::mask_of;
 use verdicts::command::second_cap;
@@ -29,8 +27,6 @@ use verdicts::command::thread_index;
 use verdicts::command::timeout_given;
 use verdicts::command::uses_by;
 use verdicts::command::word_index;
-use verdicts::verdict::row;
-use verdicts::verdict::verdict_on;
 use verdicts::wakeop::compares;
 use verdicts::wakeop::new_word;
 
@@ -134,25 +130,11 @@ fn perform(s: State, words: &mut [u32], c: Call) -> Answered
     wake(s, c)
 }
 
-// The word at a place, or 0 past the end of the memory.
-fn word_at(words: &[u32], i: usize) -> u32
-    ensures { λ r. ⌜ r ≡ getD (now (words .entry)) i 0 ⌝ }
-{
-    if i < words.len() { words[i] } else { 0 }
-}
-
 // A futex call.
 pub fn call(s: State, words: &mut [u32], c: Call) -> Answered
     ensures { λ r. ⌜ Follows (CallEvent c) s (now (words .entry)) r (now (words .exit)) ⌝ }
 {
-    let sound = tables_ok(s);
-    let t = thread_index(c.process, c.index);
-    let thread = s.threads[t];
-    let i = word_index(c.process, c.uaddr);
-    let word = word_at(words, i);
-    let v = verdict_on(c, thread.waiting, s.clock, s.count, word);
-    let v = row(Errno::EBADF, !sound, v);
-    let v = row(Errno::ENXIO, words.len() != WORDS, v);
+    let v = of_call(s, words, c);
     match v {
         Verdict::Refuse(x) => refused(x, s),
         Verdict::Pass => perform(s, words, c),

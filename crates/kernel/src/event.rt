@@ -10,35 +10,27 @@ use crate::Answered;
 use crate::call::call;
 use crate::counted;
 use crate::refused;
+use refusals::of_clock;
+use refusals::of_interrupt;
+use refusals::of_store;
 use rules::answer::Answer;
-use rules::answer::Errno;
 use rules::answer::Panel;
 use rules::answer::Verdict;
 use rules::event::Event;
 use tables::LastAnswer;
-use tables::PROCESS_BYTES;
 use tables::PROCESSES;
 use tables::State;
 use tables::THREADS;
 use tables::THREADS_PER_PROCESS;
-use tables::WORD_BYTES;
-use tables::WORDS;
 use tables::check::tables_ok;
 use verdicts::command::thread_index;
 use verdicts::command::word_index;
-use verdicts::verdict::no_thread;
-use verdicts::verdict::row;
 
 // A store: one word is written, and nobody wakes.
 pub fn store(s: State, words: &mut [u32], process: u8, address: u32, value: u32) -> Answered
     ensures { λ r. ⌜ Follows (Store process address value) s (now (words .entry)) r (now (words .exit)) ⌝ }
 {
-    let sound = tables_ok(s);
-    let v = row(Errno::EFAULT, PROCESS_BYTES <= address, Verdict::Pass);
-    let v = row(Errno::EINVAL, address % WORD_BYTES != 0, v);
-    let v = row(Errno::ESRCH, PROCESSES <= process as usize, v);
-    let v = row(Errno::EBADF, !sound, v);
-    let v = row(Errno::ENXIO, words.len() != WORDS, v);
+    let v = of_store(s, words, process, address, value);
     match v {
         Verdict::Refuse(x) => refused(x, s),
         Verdict::Pass => {
@@ -53,10 +45,7 @@ pub fn store(s: State, words: &mut [u32], process: u8, address: u32, value: u32)
 pub fn set_clock(s: State, words: &[u32], time: u64) -> Answered
     ensures { λ r. ⌜ Follows (Clock time) s (now (words .entry)) r (now (words .entry)) ⌝ }
 {
-    let sound = tables_ok(s);
-    let v = row(Errno::EINVAL, time < s.clock, Verdict::Pass);
-    let v = row(Errno::EBADF, !sound, v);
-    let v = row(Errno::ENXIO, words.len() != WORDS, v);
+    let v = of_clock(s, words, time);
     match v {
         Verdict::Refuse(x) => refused(x, s),
         Verdict::Pass => {
@@ -73,10 +62,7 @@ pub fn set_clock(s: State, words: &[u32], time: u64) -> Answered
 pub fn interrupt(s: State, words: &[u32], process: u8, index: u8) -> Answered
     ensures { λ r. ⌜ Follows (Interrupt process index) s (now (words .entry)) r (now (words .entry)) ⌝ }
 {
-    let sound = tables_ok(s);
-    let v = row(Errno::ESRCH, no_thread(process, index), Verdict::Pass);
-    let v = row(Errno::EBADF, !sound, v);
-    let v = row(Errno::ENXIO, words.len() != WORDS, v);
+    let v = of_interrupt(s, words, process, index);
     match v {
         Verdict::Refuse(x) => refused(x, s),
         Verdict::Pass => {

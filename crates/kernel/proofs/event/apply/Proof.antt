@@ -6,6 +6,7 @@ use Rattle.tables.specs.declared.State.{State}
 use Rattle.rules.specs.declared.event.Event.{Event}
 use Rattle.rules.specs.declared.event.Event.the-variants.{Query}
 use Rattle.rules.specs.declared.answer.Answer.the-variants.{Waiting}
+use Rattle.rules.specs.declared.answer.Verdict.the-variants.{Pass}
 use Rattle.kernel.specs.declared.Answered.{Answered}
 use Rattle.rules.specs.Events.{refusals, effect}
 use Rattle.kernel.specs.Follows.{Follows}
@@ -76,7 +77,7 @@ unfolding refusals effect
 returns-5 c =
     let g = c .before .before .before .before .before in
     of-event (c .before .before .e5 .given .1)
-    (follows-passed (Query _) (g .args .s) (g .args .words .now) _ (g .args .words .now) refl (ap (λ p. record { answer = Waiting p; state = g .args .s }) (c .query .ensures)) refl)
+    (follows-passed (Query _) (g .args .s) (g .args .words .now) Pass refl _ (g .args .words .now) refl (ap (λ p. record { answer = Waiting p; state = g .args .s }) (c .query .ensures)) refl)
 
 pub apply-spec : {M : Type 1} → statement M
 apply-spec =

@@ -1,28 +1,23 @@
 use borrow.Author.Needs.{needs}
 use mathlib.Core.Path.{_≡_, sym, ap, _∙_}
-use mathlib.Core.Bool.{false, not, cond}
-use lib.ListN.{length}
-use lib.Dec.{eqb}
+use mathlib.Core.Bool.{false}
 use Rattle.rules.specs.declared.event.Event.{Event}
 use Rattle.rules.specs.declared.event.Event.the-variants.{Interrupt}
-use Rattle.rules.specs.declared.answer.Errno.the-variants.{ENXIO, EBADF, ESRCH}
-use Rattle.rules.specs.declared.answer.Verdict.the-variants.{Refuse, Pass}
-use Rattle.tables.specs.Sizes.{memoryWords}
+use Rattle.rules.specs.declared.answer.Verdict.the-variants.{Pass}
 use Rattle.tables.specs.Tables.{World, threadNumber}
-use Rattle.rules.specs.Answers.{first}
 use Rattle.rules.specs.Calls.{noThread}
 use Rattle.rules.specs.Events.{refusals, effect, interruptEffect}
 use Rattle.kernel.specs.Follows.{world, answered}
 use Rattle.tables.proofs.Sound.{Sound, sound-tables}
-use Rattle.rules.proofs.Rows.{Clear, pass-clear}
+use Rattle.rules.proofs.Rows.{Clear}
 use Rattle.rules.proofs.Passed.{sound-of, thread-process, thread-index}
 use Rattle.kernel.proofs.Events.{interrupt-ends, interrupt-words}
-use Rattle.kernel.proofs.Steps.{follows-refused, follows-passed}
+use Rattle.kernel.proofs.Steps.{cleared, follows-refused, follows-passed}
 use Rattle.kernel.proofs.event.interrupt.Statement.{statement}
 use Rattle.kernel.proofs.event.interrupt.Tie as tie
 
-abbrev start : tie.After-row3 → tie.Start
-start c = c .before .before .before .before .before .before
+abbrev start : tie.After-of-interrupt → tie.Start
+start c = c .before .before
 
 abbrev event : tie.Start → Event
 event g = Interrupt (g .args .process) (g .args .index)
@@ -30,35 +25,15 @@ event g = Interrupt (g .args .process) (g .args .index)
 abbrev lent : tie.Start → World
 lent g = world (g .args .s) (g .args .words .now)
 
-verdict : (c : tie.After-row3) → c .row3 .result ≡ first (refusals (event (start c)) (lent (start c)))
-unfolding refusals
-verdict c =
-    let g = start c in
-    let r1 = c .before .before .row .ensures ∙ ap (λ b. cond b (Refuse ESRCH) Pass) (c .before .before .before .no-thread .ensures) in
-    let r2 = c .before .row2 .ensures ∙ (λ j. cond (not (c .before .before .before .before .tables-ok .ensures j)) (Refuse EBADF) (r1 j)) in
-    c .row3 .ensures ∙ ap (cond (not (eqb (length (g .args .words .now)) memoryWords)) (Refuse ENXIO)) r2
+clear : (c : tie.After-of-interrupt) → c .of-interrupt .result ≡ Pass → Clear (refusals (event (start c)) (lent (start c)))
+clear c h = let g = start c in cleared (event g) (g .args .s) (g .args .words .now) (c .of-interrupt .result) (c .of-interrupt .ensures) h
 
-clear : (c : tie.After-row3) → c .row3 .result ≡ Pass → Clear (refusals (event (start c)) (lent (start c)))
-clear c h = pass-clear (refusals (event (start c)) (lent (start c))) (sym (verdict c) ∙ h)
-
-sound : (c : tie.After-row3) → c .row3 .result ≡ Pass → Sound (start c .args .s)
+sound : (c : tie.After-of-interrupt) → c .of-interrupt .result ≡ Pass → Sound (start c .args .s)
 unfolding refusals
 sound c h = sound-of (lent (start c)) (clear c h .1 .0)
 
-tables-ok-requires : tie.Need-tables-ok-requires
-tables-ok-requires c κs = search needs
-
-no-thread-requires : tie.Need-no-thread-requires
-no-thread-requires c κs = search needs
-
-row-requires : tie.Need-row-requires
-row-requires c κs = search needs
-
-row-requires-2 : tie.Need-row-requires-2
-row-requires-2 c κs = search needs
-
-row-requires-3 : tie.Need-row-requires-3
-row-requires-3 c κs = search needs
+of-interrupt-requires : tie.Need-of-interrupt-requires
+of-interrupt-requires c κs = search needs
 
 enum-known-v : tie.Need-enum-known-v
 enum-known-v c = search needs
@@ -87,7 +62,7 @@ returns : tie.Need-returns
 returns c =
     let m = c .before .before .before .before in
     let g = start m in
-    follows-refused (event g) (g .args .s) (g .args .words .now) (c .refused .result) _ (sym (verdict m) ∙ c .before .before .v .given .1) (c .refused .ensures)
+    follows-refused (event g) (g .args .s) (g .args .words .now) (m .of-interrupt .result) (m .of-interrupt .ensures) (c .refused .result) _ (c .before .before .v .given .1) (c .refused .ensures)
 
 returns-2 : tie.Need-returns-2
 unfolding effect
@@ -98,7 +73,7 @@ returns-2 c =
     let pass = e .before .before .enum-told .given .1 in
     let h : noThread (g .args .process) (g .args .index) ≡ false = unfold refusals in (clear m pass .1 .1 .0) in
     let at = e .before .thread-index .ensures .exact (thread-process (g .args .process) (g .args .index) h) (thread-index (g .args .process) (g .args .index) h) in
-    follows-passed (event g) (g .args .s) (g .args .words .now) (c .counted .result) _ (sym (verdict m) ∙ pass)
+    follows-passed (event g) (g .args .s) (g .args .words .now) (m .of-interrupt .result) (m .of-interrupt .ensures) (c .counted .result) _ pass
     (c .counted .ensures
     ∙ interrupt-ends (e .before .thread-index .result) (g .args .s) (g .args .words .now) (sound m pass) (e .before .thread-index .ensures .inside) (e .end-first .result) (e .end-first .ensures)
     ∙ ap (λ t. answered (interruptEffect t (lent g))) at)
@@ -108,11 +83,7 @@ pub interrupt-spec : {M : Type 1} → statement M
 interrupt-spec =
     tie.close
     (tie.spec
-    tables-ok-requires
-    no-thread-requires
-    row-requires
-    row-requires-2
-    row-requires-3
+    of-interrupt-requires
     enum-known-v
     refused-requires
     enum-told

@@ -3,9 +3,6 @@ use Rattle.tables.proofs.Sound.{tables-sound}
 use Rattle.tables.proofs.Stored.{falls-asleep}
 use Rattle.tables.proofs.State.fall_asleep.Statement.{statement}
 use Rattle.tables.proofs.State.fall_asleep.Tie as tie
-use Rattle.tables.proofs.State.fall_asleep.Reads as reads
-use Rattle.tables.proofs.State.fall_asleep.Lts as lts
-use Rattle.tables.proofs.Thread.asleep_at.Reads as asleep-at-reads
 
 -- src/lib.rt:183:19
 mul-old : tie.Need-mul-old

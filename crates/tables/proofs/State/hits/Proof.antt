@@ -21,6 +21,11 @@ use Rattle.tables.proofs.State.hits.Tie as tie
 abbrev hit : ℕ → ℕ → Bool → ℕ → State → ℕ → Bool
 hit process uaddr any bitset s t = (any || sharesBit bitset (threadOf s t)) && sleepsAt process uaddr s t
 
+-- of the process's own threads the record alone says it
+own-hit : (process uaddr : ℕ) (any : Bool) (bitset : ℕ) (s : State) (t : ℕ) (r : Bool) → eqb (processOf t) process ≡ true
+    → r ≡ ((any || sharesBit bitset (threadOf s t)) && (threadOf s t .waiting && eqb (threadOf s t .uaddr) uaddr)) → r ≡ hit process uaddr any bitset s t
+own-hit process uaddr any bitset s t r own is = is ∙ rw own
+
 -- the flags of the process's first i threads are set as they should be, and no other is set
 record Going (process : ℕ) (f : ℕ → Bool) (flags : List Bool) (base i : ℕ) : Type 0 where
   within : i ≤ threadsPerProcess
@@ -94,9 +99,10 @@ loop-again c =
     let k = c .before .before .before in
     let g = k .before in
     let i = k .loop .i in
-    let own : eqb (processOf (threadsPerProcess * g .args .process + i)) (g .args .process) ≡ true = eq-eqb _ (g .args .process) (omega arith) in
-    turn (g .args .process) (hit (g .args .process) (g .args .uaddr) (g .args .any) (g .args .bitset) (g .args .t1)) (k .loop .flags) (threadsPerProcess * g .args .process) i (c .is-hit .result)
-    (k .loop .inv) (omega arith) (omega arith) (c .is-hit .ensures ∙ rw own)
+    let base = threadsPerProcess * g .args .process in
+    let own : eqb (processOf (base + i)) (g .args .process) ≡ true = eq-eqb _ (g .args .process) (omega arith) in
+    turn (g .args .process) (hit (g .args .process) (g .args .uaddr) (g .args .any) (g .args .bitset) (g .args .t1)) (k .loop .flags) base i (c .is-hit .result)
+    (k .loop .inv) (omega arith) (omega arith) (own-hit (g .args .process) (g .args .uaddr) (g .args .any) (g .args .bitset) (g .args .t1) (base + i) (c .is-hit .result) own (c .is-hit .ensures))
 
 returns : tie.Need-returns Inv-loop μ-loop
 returns c t h =

@@ -1,8 +1,8 @@
 use borrow.Author.Needs.{needs}
 use mathlib.Core.Path.{sym}
 use lib.ListN.{List·getD-eq-default}
-use Rattle.kernel.proofs.call.word_at.Statement.{statement}
-use Rattle.kernel.proofs.call.word_at.Tie as tie
+use Rattle.refusals.proofs.word_at.Statement.{statement}
+use Rattle.refusals.proofs.word_at.Tie as tie
 
 mul-result : tie.Need-mul-result
 mul-result c = search needs

@@ -1,0 +1,79 @@
+-- The verdict on what the code reads: a record and a word that may be none.
+use mathlib.Core.Path.{_≡_, refl, ap}
+use mathlib.Core.List.{List, _∷_}
+use Prim.Native.Nat.{ℕ}
+use lib.ListN.{getD}
+use borrow.Author.Tests.{leb-false}
+use Rattle.tables.specs.declared.State.{State}
+use Rattle.rules.specs.declared.event.Call.{Call}
+use Rattle.rules.specs.declared.event.Event.the-variants.{Call as CallEvent}
+use Rattle.rules.specs.declared.answer.Errno.the-variants.{ENXIO, EBADF}
+use Rattle.tables.specs.Sizes.{bytesPerProcess}
+use Rattle.tables.specs.Tables.{threadOf}
+use Rattle.rules.specs.Answers.{Row, _when_, first}
+use Rattle.rules.specs.Commands.{commandOf}
+use Rattle.rules.specs.Calls.{wrongMemory, brokenTables, callRows, callRefusals, differs}
+use Rattle.rules.specs.Events.{refusals}
+use Rattle.verdicts.specs.Places.{ThreadAt, WordAt}
+use Rattle.refusals.specs.Tested.{world}
+use Rattle.rules.proofs.Rows.{Same, same-first}
+use Rattle.rules.proofs.Passed.{thread-process, thread-index, uaddr-inside}
+
+-- The verdict on the record t and the word i that the code reads: where the thread or the address does not exist, an earlier row refuses.
+abbrev pub rowsRead : Call → State → List ℕ → ℕ → ℕ → List Row
+rowsRead c s ws t i =
+    ENXIO when wrongMemory (world s ws)
+    ∷ EBADF when brokenTables (world s ws)
+    ∷ callRows c (threadOf s t .waiting) (s .clock) (s .count) (getD ws i 0)
+
+module _ (c : Call) (s : State) (ws : List ℕ) (t i : ℕ) (thread : ThreadAt (c .process) (c .index) t) (word : WordAt (c .process) (c .uaddr) i) where
+  same-rows : Same (rowsRead c s ws t i) (callRefusals c (world s ws))
+  unfolding callRefusals callRows
+  same-rows =
+      let k = commandOf (c .op) in (
+        refl,
+        refl,
+        λ h1. (
+          refl,
+          refl,
+          λ h2. (
+            refl,
+            refl,
+            λ h3.
+                let p = thread-process (c .process) (c .index) h3 in (
+                  refl,
+                  ap (λ u. threadOf s u .waiting) (thread .exact p (thread-index (c .process) (c .index) h3)),
+                  λ h4. (
+                    refl,
+                    refl,
+                    λ h5. (
+                      refl,
+                      refl,
+                      λ h6. (
+                        refl,
+                        refl,
+                        λ h7. (
+                          refl,
+                          refl,
+                          λ h8. (
+                            refl,
+                            ap (λ j. differs k c (getD ws j 0)) (word .exact p (leb-false bytesPerProcess (c .uaddr) (uaddr-inside k c h7))),
+                            λ h9. (
+                              refl,
+                              refl,
+                              λ h10.
+                                  (refl, refl, λ h11. tt),
+                            ),
+                          ),
+                        ),
+                      ),
+                    ),
+                  ),
+                ),
+          ),
+        ),
+      )
+
+  pub verdict-is : first (rowsRead c s ws t i) ≡ first (refusals (CallEvent c) (world s ws))
+  unfolding refusals
+  verdict-is = same-first (rowsRead c s ws t i) (callRefusals c (world s ws)) same-rows

@@ -1,0 +1,71 @@
+// Refusals: which row of the table of answers refuses an event, or none. It stands on verdicts and tables.
+ghost use mathlib.Core.Path.{_≡_};
+ghost use lib.ListN.{getD};
+ghost use Rattle.rules.specs.declared.event.Event.the-variants.{Call as CallEvent, Store, Clock, Interrupt};
+ghost use Rattle.rules.specs.Answers.{first};
+ghost use Rattle.rules.specs.Events.{refusals};
+ghost use Rattle.refusals.specs.Tested.{world, tested};
+use rules::answer::Errno;
+use rules::answer::Verdict;
+use rules::event::Call;
+use tables::PROCESS_BYTES;
+use tables::PROCESSES;
+use tables::State;
+use tables::WORD_BYTES;
+use tables::WORDS;
+use tables::check::tables_ok;
+use verdicts::command::thread_index;
+use verdicts::command::word_index;
+use verdicts::verdict::no_thread;
+use verdicts::verdict::row;
+use verdicts::verdict::verdict_on;
+
+// The rows of the memory and the tables, before the rows below them.
+fn tested(s: State, words: &[u32], below: Verdict) -> Verdict
+    ensures { λ r. ⌜ r ≡ tested (world s (now (words .entry))) below ⌝ }
+{
+    let sound = tables_ok(s);
+    let v = row(Errno::EBADF, !sound, below);
+    row(Errno::ENXIO, words.len() != WORDS, v)
+}
+
+// The word at a place, or 0 past the end of the memory.
+fn word_at(words: &[u32], i: usize) -> u32
+    ensures { λ r. ⌜ r ≡ getD (now (words .entry)) i 0 ⌝ }
+{
+    if i < words.len() { words[i] } else { 0 }
+}
+
+pub fn of_call(s: State, words: &[u32], c: Call) -> Verdict
+    ensures { λ r. ⌜ r ≡ first (refusals (CallEvent c) (world s (now (words .entry)))) ⌝ }
+{
+    let t = thread_index(c.process, c.index);
+    let thread = s.threads[t];
+    let i = word_index(c.process, c.uaddr);
+    let word = word_at(words, i);
+    let v = verdict_on(c, thread.waiting, s.clock, s.count, word);
+    tested(s, words, v)
+}
+
+pub fn of_store(s: State, words: &[u32], process: u8, address: u32, value: u32) -> Verdict
+    ensures { λ r. ⌜ r ≡ first (refusals (Store process address value) (world s (now (words .entry)))) ⌝ }
+{
+    let v = row(Errno::EFAULT, PROCESS_BYTES <= address, Verdict::Pass);
+    let v = row(Errno::EINVAL, address % WORD_BYTES != 0, v);
+    let v = row(Errno::ESRCH, PROCESSES <= process as usize, v);
+    tested(s, words, v)
+}
+
+pub fn of_clock(s: State, words: &[u32], time: u64) -> Verdict
+    ensures { λ r. ⌜ r ≡ first (refusals (Clock time) (world s (now (words .entry)))) ⌝ }
+{
+    let v = row(Errno::EINVAL, time < s.clock, Verdict::Pass);
+    tested(s, words, v)
+}
+
+pub fn of_interrupt(s: State, words: &[u32], process: u8, index: u8) -> Verdict
+    ensures { λ r. ⌜ r ≡ first (refusals (Interrupt process index) (world s (now (words .entry)))) ⌝ }
+{
+    let v = row(Errno::ESRCH, no_thread(process, index), Verdict::Pass);
+    tested(s, words, v)
+}
