@@ -1,4 +1,3 @@
-pub mod Effects
 pub mod Calls
 pub mod Steps
 pub mod Events

@@ -1,134 +1,13 @@
-// Calls: the seven commands, each on tables that keep the rules, and the call that tests first.
-ghost use mathlib.Core.Path.{_≡_};
-ghost use mathlib.Core.Bool.{cond};
-ghost use mathlib.Core.List.{List, []};
-ghost use Prim.Native.Nat.{ℕ, _≤_, _<_};
-ghost use lib.ListN.{length};
-ghost use Rattle.tables.specs.Sizes.{bytesPerProcess, memoryWords};
+// Calls: the table of answers, then what the call does.
 ghost use Rattle.rules.specs.declared.event.Event.the-variants.{Call as CallEvent};
-ghost use Rattle.tables.specs.Tables.{wordAt};
-ghost use Rattle.rules.specs.WakeOp.{compares};
-ghost use Rattle.rules.specs.Commands.{commandOf};
-ghost use Rattle.rules.specs.Calls.{wait, wake, requeue, wakeOp, callEffect};
-ghost use Rattle.kernel.specs.Follows.{world, answered, Ready, Granted, Follows};
+ghost use Rattle.kernel.specs.Follows.{Follows};
 use crate::Answered;
-use crate::counted;
 use crate::refused;
+use effects::perform;
 use refusals::of_call;
-use rules::answer::Answer;
 use rules::answer::Verdict;
 use rules::event::Call;
-use tables::LastAnswer;
 use tables::State;
-use verdicts::command::deadline_of;
-use verdicts::command::mask_of;
-use verdicts::command::second_cap;
-use verdicts::command::thread_index;
-use verdicts::command::timeout_given;
-use verdicts::command::uses_by;
-use verdicts::command::word_index;
-use verdicts::wakeop::compares;
-use verdicts::wakeop::new_word;
-
-// The number, or 0.
-fn only_if(test: bool, n: u32) -> u32
-    ensures { λ r. ⌜ (r ≡ cond test n 0) × (r ≤ n) ⌝ }
-{
-    if test { n } else { 0 }
-}
-
-// WAIT, WAIT_BITSET: the caller sleeps. This and the commands below are called by perform, on a call that was not refused.
-fn wait(s: State, c: Call) -> Answered
-    requires { ⌜ Ready c s ⌝ }
-    ensures { λ r. ⌜ r ≡ answered (wait (commandOf (c .op)) c (world s [])) ⌝ }
-{
-    let u = uses_by(c.op);
-    let t = thread_index(c.process, c.index);
-    let bitset = mask_of(c, u.mask);
-    let timed = timeout_given(c);
-    let due = deadline_of(c, u.mask, s.clock);
-    let next = s.fall_asleep(t, c.uaddr, bitset, timed, due);
-    Answered {
-        answer: Answer::Asleep,
-        state: next,
-    }
-}
-
-// WAKE, WAKE_BITSET.
-fn wake(s: State, c: Call) -> Answered
-    requires { ⌜ Ready c s ⌝ }
-    ensures { λ r. ⌜ r ≡ answered (wake (commandOf (c .op)) c (world s [])) ⌝ }
-{
-    let u = uses_by(c.op);
-    let flags = s.hits(c.process as usize, c.uaddr, !u.mask, c.val3);
-    let taken = s.end_first(flags, c.val as usize, LastAnswer::Woken);
-    let next = taken.state;
-    counted(taken.n, next)
-}
-
-// REQUEUE, CMP_REQUEUE: the first are released, the next move.
-fn requeue(s: State, c: Call) -> Answered
-    requires { ⌜ Ready c s ⌝ }
-    ensures { λ r. ⌜ r ≡ answered (requeue (commandOf (c .op)) c (world s [])) ⌝ }
-{
-    let u = uses_by(c.op);
-    let cap2 = second_cap(c);
-    let flags = s.hits(c.process as usize, c.uaddr, !u.mask, c.val3);
-    let released = s.end_first(flags, c.val as usize, LastAnswer::Woken);
-    let rest = released.state;
-    let moved = rest.move_first(flags, cap2 as usize, c.uaddr2);
-    let next = moved.state;
-    let more = only_if(u.compare, moved.n);
-    counted(released.n + more, next)
-}
-
-// The releases of a WAKE_OP, both chosen on the tables as they came, by whether its comparison holds.
-fn release_both(s: State, c: Call, holds: bool) -> Answered
-    requires { ⌜ Ready c s ⌝ }
-    ensures { λ r. ⌜ ((ws : List ℕ) → compares (c .val3) (wordAt (world s ws) (c .process) (c .uaddr2)) ≡ holds → r ≡ answered (wakeOp (commandOf (c .op)) c (world s ws))) ⌝ }
-{
-    let u = uses_by(c.op);
-    let cap2 = second_cap(c);
-    let first = s.hits(c.process as usize, c.uaddr, !u.mask, c.val3);
-    let second = s.hits(c.process as usize, c.uaddr2, !u.mask, c.val3);
-    let released = s.end_first(first, c.val as usize, LastAnswer::Woken);
-    let rest = released.state;
-    let cap = only_if(holds, cap2);
-    let more = rest.end_first(second, cap as usize, LastAnswer::Woken);
-    let next = more.state;
-    counted(released.n + more.n, next)
-}
-
-// WAKE_OP: the second word is written, then sleepers of both words are released.
-fn wake_op(s: State, words: &mut [u32], c: Call) -> Answered
-    requires { ⌜ (Ready c s) × ((c .uaddr2 < bytesPerProcess) × (length (now words) ≡ memoryWords)) ⌝ }
-    ensures { λ r. ⌜ (r ≡ answered (wakeOp (commandOf (c .op)) c (world s (now (words .entry))))) × (now (words .exit) ≡ wakeOp (commandOf (c .op)) c (world s (now (words .entry))) .world .words) ⌝ }
-{
-    let i = word_index(c.process, c.uaddr2);
-    let old = words[i];
-    let new = new_word(c.val3, old);
-    words[i] = new;
-    let holds = compares(c.val3, old);
-    release_both(s, c, holds)
-}
-
-// What a call does that no row refuses. It is called by call.
-fn perform(s: State, words: &mut [u32], c: Call) -> Answered
-    requires { ⌜ Granted c s (now words) ⌝ }
-    ensures { λ r. ⌜ (r ≡ answered (callEffect (commandOf (c .op)) c (world s (now (words .entry))))) × (now (words .exit) ≡ callEffect (commandOf (c .op)) c (world s (now (words .entry))) .world .words) ⌝ }
-{
-    let u = uses_by(c.op);
-    if u.deadline {
-        return wait(s, c);
-    }
-    if u.moves {
-        return requeue(s, c);
-    }
-    if u.second {
-        return wake_op(s, words, c);
-    }
-    wake(s, c)
-}
 
 // A futex call.
 pub fn call(s: State, words: &mut [u32], c: Call) -> Answered
@@ -137,6 +16,14 @@ pub fn call(s: State, words: &mut [u32], c: Call) -> Answered
     let v = of_call(s, words, c);
     match v {
         Verdict::Refuse(x) => refused(x, s),
-        Verdict::Pass => perform(s, words, c),
+        Verdict::Pass => {
+            let p = perform(s, words, c);
+            let a = p.answer;
+            let next = p.state;
+            Answered {
+                answer: a,
+                state: next,
+            }
+        }
     }
 }

@@ -1,4 +1,4 @@
-// Kernel: the code of every event, proved equal to the rules. It stands on refusals, rules and tables.
+// Kernel: the code of every event, proved equal to the rules. It stands on refusals, effects and tables.
 ghost use mathlib.Core.Path.{_≡_};
 ghost use Rattle.rules.specs.declared.answer.Answer.the-variants.{Count, Refused};
 

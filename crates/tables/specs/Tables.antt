@@ -17,6 +17,10 @@ pub record World : Type 0 where
   pub state : State
   pub words : List ℕ
 
+-- the tables and the lent words
+abbrev pub world : State → List ℕ → World
+world s words = record { state = s; words = words }
+
 -- "thread (p, i) has number 8p + i"
 abbrev pub threadNumber : ℕ → ℕ → ℕ
 threadNumber p i = threadsPerProcess * p + i

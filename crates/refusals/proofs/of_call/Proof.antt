@@ -1,5 +1,6 @@
 use mathlib.Core.Path.{ap, _∙_}
-use Rattle.refusals.specs.Tested.{world, tested}
+use Rattle.tables.specs.Tables.{world}
+use Rattle.refusals.specs.Tested.{tested}
 use Rattle.refusals.proofs.Read.{verdict-is}
 use borrow.Author.Needs.{needs}
 use Rattle.refusals.proofs.of_call.Statement.{statement}

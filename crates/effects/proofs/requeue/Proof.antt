@@ -13,9 +13,9 @@ use Rattle.tables.specs.Tables.{tablesOk}
 use Rattle.tables.specs.Steps.{flagged, endFirst, moveFirst}
 use Rattle.rules.specs.Commands.{commandOf, uses}
 use Rattle.tables.proofs.Sound.{Sound, tables-sound, sound-tables}
-use Rattle.kernel.proofs.Effects.{end-sound, end-few, move-few, chosen, requeues}
-use Rattle.kernel.proofs.call.requeue.Statement.{statement}
-use Rattle.kernel.proofs.call.requeue.Tie as tie
+use Rattle.effects.proofs.Effects.{end-sound, end-few, move-few, chosen, requeues}
+use Rattle.effects.proofs.requeue.Statement.{statement}
+use Rattle.effects.proofs.requeue.Tie as tie
 
 sound : (c : tie.Start) → Sound (c .args .s)
 sound c = tables-sound (c .args .s) (c .pre .tables)

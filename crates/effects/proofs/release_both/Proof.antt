@@ -12,10 +12,10 @@ use Rattle.rules.specs.Commands.{commandOf}
 use Rattle.rules.specs.WakeOp.{compares}
 use Rattle.rules.specs.Calls.{secondCap}
 use Rattle.tables.proofs.Sound.{Sound, tables-sound, sound-tables}
-use Rattle.kernel.specs.Follows.{world}
-use Rattle.kernel.proofs.Effects.{end-sound, end-few, chosen, releases-both}
-use Rattle.kernel.proofs.call.release_both.Statement.{statement}
-use Rattle.kernel.proofs.call.release_both.Tie as tie
+use Rattle.tables.specs.Tables.{world}
+use Rattle.effects.proofs.Effects.{end-sound, end-few, chosen, releases-both}
+use Rattle.effects.proofs.release_both.Statement.{statement}
+use Rattle.effects.proofs.release_both.Tie as tie
 
 sound : (c : tie.Start) → Sound (c .args .s)
 sound c = tables-sound (c .args .s) (c .pre .tables)

@@ -6,9 +6,9 @@ use Rattle.rules.specs.declared.answer.Answer.the-variants.{Count}
 use Rattle.tables.specs.Steps.{flagged}
 use Rattle.rules.specs.Commands.{commandOf}
 use Rattle.tables.proofs.Sound.{Sound, tables-sound}
-use Rattle.kernel.proofs.Effects.{chosen, wakes}
-use Rattle.kernel.proofs.call.wake.Statement.{statement}
-use Rattle.kernel.proofs.call.wake.Tie as tie
+use Rattle.effects.proofs.Effects.{chosen, wakes}
+use Rattle.effects.proofs.wake.Statement.{statement}
+use Rattle.effects.proofs.wake.Tie as tie
 
 sound : (c : tie.Start) → Sound (c .args .s)
 sound c = tables-sound (c .args .s) (c .pre .tables)

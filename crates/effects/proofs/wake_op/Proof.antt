@@ -4,8 +4,8 @@ use lib.ListN.{getD, set}
 use Rattle.tables.specs.Tables.{writeWord}
 use Rattle.rules.specs.WakeOp.{newWord, compares}
 use Rattle.rules.specs.Calls.{wakeOp}
-use Rattle.kernel.proofs.call.wake_op.Statement.{statement}
-use Rattle.kernel.proofs.call.wake_op.Tie as tie
+use Rattle.effects.proofs.wake_op.Statement.{statement}
+use Rattle.effects.proofs.wake_op.Tie as tie
 
 word-index-requires : tie.Need-word-index-requires
 word-index-requires c κs = search needs

@@ -1,7 +1,7 @@
 use borrow.Author.Needs.{needs}
 use Rattle.rules.specs.Calls.{wait}
-use Rattle.kernel.proofs.call.wait.Statement.{statement}
-use Rattle.kernel.proofs.call.wait.Tie as tie
+use Rattle.effects.proofs.wait.Statement.{statement}
+use Rattle.effects.proofs.wait.Tie as tie
 
 uses-by-requires : tie.Need-uses-by-requires
 uses-by-requires c κs = search needs

@@ -1,12 +1,12 @@
 -- What the tables' functions compute is what the rules say of each command.
-use mathlib.Core.Path.{_≡_, sym, ap, _∙_}
-use mathlib.Core.Bool.{Bool, not, cond, _&&_, _||_}
+use mathlib.Core.Path.{_≡_, refl, sym, ap, _∙_}
+use mathlib.Core.Bool.{Bool, true, false, not, cond, _&&_, _||_}
 use mathlib.Core.List.{List}
 use Prim.Native.Nat.{ℕ, _+_, _≤_}
 use native.Mathlib.Omega.{arith}
 use lib.ListN.{length, take, drop}
 use Rattle.lists.specs.Lists.{filter, elem, without}
-use Rattle.lists.proofs.Tests.{cases}
+use Rattle.lists.proofs.Tests.{cases, clash}
 use Rattle.lists.proofs.Filter.{filter-comm}
 use Rattle.lists.proofs.Occurs.{filter-agree}
 use Rattle.lists.proofs.Loops.{without-taken, filter-passed, length-parts}
@@ -15,16 +15,18 @@ use Rattle.tables.specs.declared.Taken.{Taken}
 use Rattle.tables.specs.declared.LastAnswer.{LastAnswer}
 use Rattle.tables.specs.declared.LastAnswer.the-variants.{Woken}
 use Rattle.rules.specs.declared.event.Command.{Command}
+use Rattle.rules.specs.declared.event.Command.the-variants.{Wait, Wake, Requeue, CmpRequeue, WakeOp, WaitBitset, WakeBitset, Unknown}
 use Rattle.rules.specs.declared.event.Call.{Call}
 use Rattle.rules.specs.declared.event.Uses.{Uses}
 use Rattle.rules.specs.declared.answer.Answer.the-variants.{Count}
 use Rattle.tables.specs.Sizes.{threads}
 use Rattle.tables.specs.Tables.{World, threadOf, arrivals, sharesBit, sleepsAt, wordAt, endSleeps, writeWord}
 use Rattle.tables.specs.Steps.{Flags, flagged, endFirst, moveFirst}
-use Rattle.rules.specs.Commands.{commandOf, uses}
+use Rattle.rules.specs.Commands.{commandOf, isUnknown, uses}
 use Rattle.rules.specs.WakeOp.{compares}
-use Rattle.rules.specs.Calls.{matches, secondCap, candidates, released, moved, releasedSecond, wake, requeue, wakeOp}
-use Rattle.kernel.specs.Follows.{world, answered}
+use Rattle.rules.specs.Calls.{matches, secondCap, candidates, released, moved, releasedSecond, wait, wake, requeue, wakeOp, callEffect}
+use Rattle.tables.specs.Tables.{world}
+use Rattle.effects.specs.Ready.{performed}
 use Rattle.tables.proofs.Changes.{arrivals-end, end-append}
 use Rattle.tables.proofs.Sound.{Sound, waiting-below, listed-waiting, once, arrivals-fit}
 use Rattle.tables.proofs.Kept.{sound-end}
@@ -59,7 +61,7 @@ module _ (k : Command) (c : Call) (s : State) (g : Sound s) (f : ℕ → Bool)
   abbrev first : Taken
   first = endFirst Woken f (c .val) s
 
-  pub wakes : (words : List ℕ) → record { answer = Count (first .n); state = first .state } ≡ answered (wake k c (world s words))
+  pub wakes : (words : List ℕ) → record { answer = Count (first .n); state = first .state } ≡ performed (wake k c (world s words))
   unfolding wake released endFirst
   wakes words = cc (is)
 
@@ -75,7 +77,7 @@ module _ (k : Command) (c : Call) (s : State) (g : Sound s) (f : ℕ → Bool)
   next = moveFirst (c .uaddr2) f (secondCap c) (first .state)
 
   pub requeues : (words : List ℕ)
-      → record { answer = Count (first .n + cond (uses k .compare) (next .n) 0); state = next .state } ≡ answered (requeue k c (world s words))
+      → record { answer = Count (first .n + cond (uses k .compare) (next .n) 0); state = next .state } ≡ performed (requeue k c (world s words))
   unfolding requeue released moved moveFirst
   requeues words = cc (left, first-is)
     where
@@ -114,10 +116,23 @@ module _ (k : Command) (c : Call) (w : World) (g : Sound (w .state)) (f h : ℕ 
       ap (λ (t : Taken). endFirst Woken h (cond holds (secondCap c) 0) (t .state)) one-is
       ∙ (unfold endFirst in cc (second-is))
 
-  pub releases-both : record { answer = Count (one .n + two .n); state = two .state } ≡ answered (wakeOp k c w)
+  pub releases-both : record { answer = Count (one .n + two .n); state = two .state } ≡ performed (wakeOp k c w)
   unfolding wakeOp writeWord
   releases-both =
       let n = ap (λ (t : Taken). t .n) one-is in
       let m = ap (λ (t : Taken). t .n) two-is in
       let s = ap (λ (t : Taken). t .state) two-is ∙ end-append Woken (released k c (w .state)) (releasedSecond k c w) (w .state) in
       λ i. record { answer = Count (n i + m i); state = s i }
+
+-- which command it is, by what it uses
+pub by-uses : (k : Command) (c : Call) (w : World) → isUnknown k ≡ false
+    → callEffect k c w ≡ cond (uses k .deadline) (wait k c w) (cond (uses k .moves) (requeue k c w) (cond (uses k .second) (wakeOp k c w) (wake k c w)))
+unfolding callEffect
+by-uses Wait c w h = refl
+by-uses WaitBitset c w h = refl
+by-uses Wake c w h = refl
+by-uses WakeBitset c w h = refl
+by-uses Requeue c w h = refl
+by-uses CmpRequeue c w h = refl
+by-uses WakeOp c w h = refl
+by-uses Unknown c w h = clash true refl h

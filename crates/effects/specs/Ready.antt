@@ -1,0 +1,29 @@
+-- What a call that was not refused has shown, and what it then answers and leaves.
+use mathlib.Core.Path.{_≡_}
+use mathlib.Core.Bool.{true, false}
+use mathlib.Core.List.{List}
+use Prim.Native.Nat.{ℕ, _<_}
+use lib.ListN.{length}
+use Rattle.tables.specs.declared.State.{State}
+use Rattle.rules.specs.declared.event.Call.{Call}
+use Rattle.effects.specs.declared.Performed.{Performed}
+use Rattle.tables.specs.Sizes.{processes, threadsPerProcess, threads, bytesPerProcess, memoryWords}
+use Rattle.tables.specs.Tables.{tablesOk}
+use Rattle.rules.specs.Answers.{Outcome}
+use Rattle.rules.specs.Commands.{commandOf, isUnknown, uses}
+
+abbrev pub performed : Outcome → Performed
+performed o = record { answer = o .answer; state = o .world .state }
+
+-- of itself and of the tables
+pub record Ready (c : Call) (s : State) : Type 0 where
+  pub tables : tablesOk s ≡ true
+  pub process : c .process < processes
+  pub index : c .index < threadsPerProcess
+  pub room : s .count < threads
+
+pub record Granted (c : Call) (s : State) (words : List ℕ) : Type 0 where
+  pub ready : Ready c s
+  pub known : isUnknown (commandOf (c .op)) ≡ false
+  pub memory : length words ≡ memoryWords
+  pub second : uses (commandOf (c .op)) .second ≡ true → c .uaddr2 < bytesPerProcess
