@@ -1,26 +1,2 @@
--- Flags that a loop fills, one for each thread.
-use mathlib.Core.Path.{_≡_, _∙_}
-use mathlib.Core.Bool.{Bool, false}
-use mathlib.Core.List.{List}
-use Prim.Native.Nat.{ℕ, _+_, _<_}
-use native.Mathlib.Omega.{arith}
-use lib.ListN.{length, set}
-use lib.Seq.{getD-set-same, getD-set-other}
-use lib.Dec.{eqb}
-use borrow.Author.Tests.{eqb-true, eqb-false}
-use Rattle.lists.proofs.Tests.{cases}
-use Rattle.lists.proofs.Occurs.{lt-of-le-ne}
-use Rattle.tables.specs.Steps.{flagged}
-
--- one flag more: it is stored, and the others stay
-pub flag-here : (flags : List Bool) (t : ℕ) (v : Bool) → t < length flags → flagged (set flags t v) t ≡ v
-flag-here flags t v h = getD-set-same flags t v false h
-
-pub flag-there : (flags : List Bool) (t u : ℕ) (v : Bool) → (u ≡ t → ⊥) → flagged (set flags t v) u ≡ flagged flags u
-flag-there flags t u v apart = getD-set-other flags t u v false apart
-
-pub flags-next : (flags : List Bool) (f : ℕ → Bool) (i : ℕ) (v : Bool) → i < length flags → ((t : ℕ) → t < i → flagged flags t ≡ f t) → v ≡ f i
-    → (t : ℕ) → t < i + 1 → flagged (set flags i v) t ≡ f t
-flags-next flags f i v h done is t l = cases (eqb t i)
-    (λ e. rw (eqb-true t i e) (flag-here flags i v h ∙ is))
-    (λ e. let apart = eqb-false t i e in flag-there flags i t v apart ∙ done t (lt-of-le-ne t i (omega arith) e))
+-- Flags that a loop fills, as arrivals has them.
+pub use Rattle.arrivals.proofs.Flags.{flag-here, flag-there, flags-next}

@@ -17,7 +17,7 @@ use Rattle.tables.specs.declared.Thread.{Thread}
 use Rattle.tables.specs.declared.LastAnswer.{LastAnswer}
 use Rattle.tables.specs.declared.LastAnswer.the-variants.{NoneYet}
 use Rattle.tables.specs.declared.Change.the-variants.{End, MoveTo}
-use Rattle.tables.specs.declared.queue.Parts.{Parts}
+use Rattle.arrivals.specs.declared.Parts.{Parts}
 use Rattle.tables.specs.Sizes.{threads, noEntry}
 use Rattle.tables.specs.Tables.{running, threadOf, arrivals, change, withThreads, ended, endSleeps, moveSleeps, fallAsleep, asleepAt}
 use Rattle.tables.specs.Steps.{changedBy, Numbers, splitOf, endFirst, moveFirst}

@@ -1,16 +1,7 @@
 -- "The display's fixed sizes". Every other file uses these names and never the numbers.
 use Prim.Native.Nat.{ℕ, _*_, _-_, _^_}
-
--- "Eight processes, 0 to 7."
-abbrev pub processes : ℕ
-processes = 8
-
--- "Each has eight threads, index 0 to 7"
-abbrev pub threadsPerProcess : ℕ
-threadsPerProcess = 8
-
-abbrev pub threads : ℕ
-threads = processes * threadsPerProcess
+-- processes, threads and the entry that names none stand with the arrival list
+pub use Rattle.arrivals.specs.Sizes.{processes, threadsPerProcess, threads, noEntry}
 
 -- "Each process has 1,024 words of 32 bits at byte addresses 0, 4, .. 4092"
 abbrev pub wordsPerProcess : ℕ
@@ -40,7 +31,3 @@ matchAny = wordLimit - 1
 -- the largest wake cap or second cap
 abbrev pub maxCap : ℕ
 maxCap = 2147483647
-
--- "later entries are 255"
-abbrev pub noEntry : ℕ
-noEntry = 255

@@ -1,48 +1,22 @@
--- What the functions of this crate compute on the way: a change of a record, and a list that is split.
-use mathlib.Core.Path.{_≡_}
-use mathlib.Core.Bool.{Bool, false, _&&_}
-use mathlib.Core.List.{List}
-use Prim.Native.Nat.{ℕ, _≤_, _<_}
-use lib.ListN.{length, take, getD}
-use lib.Dec.{ltb}
-use Rattle.lists.specs.Lists.{filter, all, elem, distinct, padTo, passed}
+-- What the functions of this crate compute on the way: a change of a record, and of the first sleepers that pass.
+use mathlib.Core.Bool.{Bool}
+use Prim.Native.Nat.{ℕ}
+use lib.ListN.{length, take}
+use Rattle.lists.specs.Lists.{filter}
 use Rattle.tables.specs.declared.State.{State}
 use Rattle.tables.specs.declared.Thread.{Thread}
 use Rattle.tables.specs.declared.LastAnswer.{LastAnswer}
 use Rattle.tables.specs.declared.Change.{Change}
 use Rattle.tables.specs.declared.Change.the-variants.{End, MoveTo}
 use Rattle.tables.specs.declared.Taken.{Taken}
-use Rattle.tables.specs.declared.queue.Parts.{Parts}
-use Rattle.tables.specs.Sizes.{threads, noEntry}
 use Rattle.tables.specs.Tables.{arrivals, ended, movedTo, endSleeps, moveSleeps}
+pub use Rattle.arrivals.specs.Arrivals.{Numbers, flagged, Flags, SeenIn}
+unfoldable pub use Rattle.arrivals.specs.Arrivals.{splitOf}
 
 -- a record after a change
 abbrev pub changedBy : Change → Thread → Thread
 changedBy (End a) r = ended a r
 changedBy (MoveTo a) r = movedTo a r
-
--- the first n entries are thread numbers
-pub record Numbers (l : List ℕ) (n : ℕ) : Type 0 where
-  pub few : n ≤ threads
-  pub below : (k : ℕ) → k < n → getD l k 0 < threads
-
--- a flag for each thread
-abbrev pub flagged : List Bool → ℕ → Bool
-flagged flags t = getD flags t false
-
--- the flags say which threads pass the test
-abbrev pub Flags : List Bool → (ℕ → Bool) → Type 0
-Flags flags f = (t : ℕ) → t < threads → flagged flags t ≡ f t
-
--- the first cap entries that pass, and the others, each as a list is stored
-unfoldable pub splitOf : (ℕ → Bool) → ℕ → List ℕ → Parts
-splitOf f cap l =
-    record {
-      kept = padTo threads noEntry (passed f cap l);
-      count = length (passed f cap l);
-      taken = padTo threads noEntry (take cap (filter f l));
-      n = length (take cap (filter f l));
-    }
 
 -- the first cap sleepers that pass end their sleep, or move
 unfoldable pub endFirst : LastAnswer → (ℕ → Bool) → ℕ → State → Taken
@@ -52,8 +26,3 @@ endFirst a f cap s =
 unfoldable pub moveFirst : ℕ → (ℕ → Bool) → ℕ → State → Taken
 moveFirst a f cap s =
     record { state = moveSleeps a (take cap (filter f (arrivals s))) s; n = length (take cap (filter f (arrivals s))) }
-
--- which threads a list names, and whether they are thread numbers and all different
-pub record SeenIn (l : List ℕ) (ok : Bool) (marks : List Bool) : Type 0 where
-  pub sound : ok ≡ (all (λ t. ltb t threads) l && distinct l)
-  pub marked : Flags marks (λ t. elem t l)

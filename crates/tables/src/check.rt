@@ -1,20 +1,17 @@
 // The table rules, in one pass over the list and one over the records.
 ghost use mathlib.Core.Path.{_≡_};
 ghost use mathlib.Core.Bool.{_&&_, Bool·beq};
-ghost use Prim.Native.Nat.{_≤_};
-ghost use lib.ListN.{take, drop};
-ghost use lib.Dec.{eqb};
-ghost use Rattle.lists.specs.Lists.{all, everyBelow};
-ghost use Rattle.tables.specs.Sizes.{threads, noEntry};
+ghost use Rattle.lists.specs.Lists.{everyBelow};
+ghost use Rattle.tables.specs.Sizes.{threads};
 ghost use Rattle.tables.specs.Tables.{threadOf, recordOk, recordsOk, tablesOk};
-ghost use Rattle.tables.specs.Steps.{flagged, SeenIn};
-use crate::NO_ENTRY;
+ghost use Rattle.tables.specs.Steps.{flagged};
 use crate::PROCESS_BYTES;
 use crate::State;
 use crate::THREADS;
 use crate::Thread;
 use crate::WORD_BYTES;
-use crate::queue::index_of;
+use arrivals::seen_in;
+use arrivals::tail_ok;
 
 fn record_ok(t: Thread, now: u64) -> bool
     ensures { λ r. ⌜ r ≡ recordOk now t ⌝ }
@@ -26,48 +23,6 @@ fn record_ok(t: Thread, now: u64) -> bool
     } else {
         (t.uaddr == 0) & (t.bitset == 0) & !t.timed & (t.deadline == 0)
     }
-}
-
-// Which threads a list names, and whether it names thread numbers, each once.
-struct Seen {
-    pub ok: bool,
-    pub marks: [bool; THREADS],
-}
-
-fn seen_in(list: [u8; THREADS], count: usize) -> Seen
-    requires { ⌜ count ≤ threads ⌝ }
-    ensures { λ r. ⌜ SeenIn (take count list) (r .ok) (r .marks) ⌝ }
-{
-    let mut ok = true;
-    let mut marks = [false; THREADS];
-    let mut i: usize = 0;
-    while i < count {
-        let e = list[i];
-        let x = index_of(e);
-        let low = (e as usize) < THREADS;
-        let before = marks[x];
-        ok = ok & low & !before;
-        marks[x] = before | low;
-        i += 1;
-    }
-    Seen {
-        ok: ok,
-        marks: marks,
-    }
-}
-
-// The entries past the count name no thread.
-fn tail_ok(list: [u8; THREADS], count: usize) -> bool
-    requires { ⌜ count ≤ threads ⌝ }
-    ensures { λ r. ⌜ r ≡ all (λ e. eqb e noEntry) (drop count list) ⌝ }
-{
-    let mut ok = true;
-    let mut i = count;
-    while i < THREADS {
-        ok = ok & (list[i] == NO_ENTRY);
-        i += 1;
-    }
-    ok
 }
 
 // The records keep their rules, and the marked threads are the waiting ones.

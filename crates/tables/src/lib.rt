@@ -1,4 +1,4 @@
-// Tables: what the kernel keeps, a clock, a record for each thread and the arrival list with its count; their rules and changes. It stands on lists.
+// Tables: what the kernel keeps, a clock, a record for each thread and the arrival list with its count; their rules and changes. It stands on arrivals.
 ghost use mathlib.Core.Path.{_≡_};
 ghost use mathlib.Core.Bool.{true, false, _&&_, _||_};
 ghost use Prim.Native.Nat.{_+_, _<_};
@@ -11,11 +11,10 @@ ghost use Rattle.tables.specs.Steps.{changedBy, Numbers, Flags, flagged,
 pub mod check;
 pub mod queue;
 
-pub const PROCESSES: usize = 8;
-
-pub const THREADS_PER_PROCESS: usize = 8;
-
-pub const THREADS: usize = PROCESSES * THREADS_PER_PROCESS;
+pub use arrivals::NO_ENTRY;
+pub use arrivals::PROCESSES;
+pub use arrivals::THREADS;
+pub use arrivals::THREADS_PER_PROCESS;
 
 pub const WORDS_PER_PROCESS: usize = 1024;
 
@@ -25,9 +24,6 @@ pub const WORD_BYTES: u32 = 4;
 
 // Every address of a process is below this, and a multiple of WORD_BYTES.
 pub const PROCESS_BYTES: u32 = WORD_BYTES * (WORDS_PER_PROCESS as u32);
-
-// The entry of the arrival list that names no thread.
-pub const NO_ENTRY: u8 = 255;
 
 // How a thread's last ended sleep was answered; no other value can be held.
 pub enum LastAnswer {
