@@ -7,6 +7,7 @@ use Rattle.rules.specs.declared.event.Event.{Event}
 use Rattle.kernel.specs.declared.Answered.{Answered}
 use Rattle.rules.specs.Answers.{Outcome}
 use Rattle.rules.specs.Events.{step}
+-- the tables with the lent words, and what a call that was not refused has shown, passed on
 pub use Rattle.tables.specs.Tables.{world}
 pub use Rattle.effects.specs.Ready.{Ready, Granted}
 

@@ -10,6 +10,7 @@ use Rattle.tables.specs.declared.Change.{Change}
 use Rattle.tables.specs.declared.Change.the-variants.{End, MoveTo}
 use Rattle.tables.specs.declared.Taken.{Taken}
 use Rattle.tables.specs.Tables.{arrivals, ended, movedTo, endSleeps, moveSleeps}
+-- the arrival list's own definitions, passed on
 pub use Rattle.arrivals.specs.Arrivals.{Numbers, flagged, Flags, SeenIn}
 unfoldable pub use Rattle.arrivals.specs.Arrivals.{splitOf}
 
