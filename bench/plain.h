@@ -1,6 +1,6 @@
 /*
- * A plain C kernel of document 01's rules, on the same bytes as the library and with the same answers: what a C programmer would
- * write by hand for speed. It is what the library's speed is measured against, and nothing else uses it.
+ * A plain C kernel of document 01's rules, on the same bytes as the library and with the same answers: what a C programmer writes
+ * straightforwardly, in place. The library's speed is measured against it, and nothing else uses it.
  *
  * Unlike the library it wants the tables at an address that is a multiple of 8.
  */

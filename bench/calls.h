@@ -1,0 +1,194 @@
+/*
+ * What plain.c and tuned.c have in common: the rules of a call once the tables are sound. They differ in how they check the tables
+ * and how they change the list, so each defines release and requeue_sleepers for itself.
+ */
+#ifndef CALLS_H
+#define CALLS_H
+
+#include "../include/vradomil.h"
+
+#include <stdbool.h>
+#include <string.h>
+
+#define THREADS VRADOMIL_THREADS
+#define WORD_AREA (4 * VRADOMIL_WORDS_PER_PROCESS)
+#define ALL_ONES UINT32_MAX
+
+typedef struct vradomil_tables tables_t;
+
+struct requeued {
+    int32_t released, moved;
+};
+
+/* Ends the first cap sleeps at a word whose mask shares a bit; says how many. */
+static inline int32_t release(tables_t *t, size_t process, uint32_t uaddr, uint32_t mask, uint32_t cap);
+
+/* Ends the first cap sleeps at a word; the next, up to cap2, go to uaddr2 and to the end of the list. */
+static inline struct requeued requeue_sleepers(tables_t *t, size_t process, uint32_t uaddr, uint32_t cap, uint32_t uaddr2,
+                                               uint32_t cap2);
+
+/* The arguments of a call that has passed the tests up to -16. */
+struct call {
+    tables_t *t;
+    uint8_t *area; /* the words of the caller's process */
+    size_t process;
+    size_t caller;
+    uint32_t op;
+    uint32_t uaddr;
+    uint32_t val;
+    bool timed;
+    uint64_t timeout;
+    uint32_t uaddr2;
+    uint32_t cap2;
+    uint32_t val3;
+};
+
+static inline uint32_t load(const uint8_t *word)
+{
+    uint32_t value;
+    memcpy(&value, word, sizeof value);
+    return value;
+}
+
+static inline uint64_t saturating_add(uint64_t a, uint64_t b)
+{
+    return a + b < a ? UINT64_MAX : a + b;
+}
+
+/* A thread whose sleep ends. The list is the caller's to mend. */
+static inline void run_again(tables_t *t, size_t thread, uint8_t last)
+{
+    t->waiting[thread] = 0;
+    t->timed[thread] = 0;
+    t->last[thread] = last;
+    t->uaddr[thread] = 0;
+    t->bitset[thread] = 0;
+    t->deadline[thread] = 0;
+}
+
+/* No test for -12: the caller runs, so the list of sound tables has room. */
+static inline int32_t wait(const struct call *c, uint32_t mask, uint64_t deadline)
+{
+    tables_t *t = c->t;
+    if (c->uaddr % 4 != 0 || mask == 0)
+        return VRADOMIL_EINVAL;
+    if (c->uaddr >= WORD_AREA)
+        return VRADOMIL_EFAULT;
+    if (load(c->area + c->uaddr) != c->val)
+        return VRADOMIL_EAGAIN;
+    if (c->timed && deadline <= t->clock)
+        return VRADOMIL_ETIMEDOUT;
+    t->waiting[c->caller] = 1;
+    t->timed[c->caller] = c->timed;
+    t->uaddr[c->caller] = c->uaddr;
+    t->bitset[c->caller] = mask;
+    t->deadline[c->caller] = c->timed ? deadline : 0;
+    t->list[t->count++] = (uint8_t)c->caller;
+    return VRADOMIL_ASLEEP;
+}
+
+static inline int32_t wake(const struct call *c, uint32_t mask)
+{
+    if (c->val > VRADOMIL_ALL || mask == 0 || c->uaddr % 4 != 0)
+        return VRADOMIL_EINVAL;
+    if (c->uaddr >= WORD_AREA)
+        return VRADOMIL_EFAULT;
+    return release(c->t, c->process, c->uaddr, mask, c->val);
+}
+
+/* -22 and -14 of the commands with two addresses and two caps; else 0. */
+static inline int32_t refuse_two(const struct call *c)
+{
+    if (c->val > VRADOMIL_ALL || c->cap2 > VRADOMIL_ALL || c->uaddr % 4 != 0 || c->uaddr2 % 4 != 0)
+        return VRADOMIL_EINVAL;
+    if (c->uaddr >= WORD_AREA || c->uaddr2 >= WORD_AREA)
+        return VRADOMIL_EFAULT;
+    return 0;
+}
+
+static inline int32_t requeue(const struct call *c, bool compare)
+{
+    int32_t refusal = c->uaddr == c->uaddr2 ? VRADOMIL_EINVAL : refuse_two(c);
+    if (refusal != 0)
+        return refusal;
+    if (compare && load(c->area + c->uaddr) != c->val3)
+        return VRADOMIL_EAGAIN;
+    struct requeued n = requeue_sleepers(c->t, c->process, c->uaddr, c->val, c->uaddr2, c->cap2);
+    return compare ? n.released + n.moved : n.released;
+}
+
+static inline uint32_t operate(uint32_t op, uint32_t oparg, uint32_t old)
+{
+    uint32_t operand = op & VRADOMIL_OP_SHIFT ? UINT32_C(1) << oparg % 32 : oparg;
+    switch (op & 7) {
+    case VRADOMIL_OP_SET:
+        return operand;
+    case VRADOMIL_OP_ADD:
+        return old + operand;
+    case VRADOMIL_OP_OR:
+        return old | operand;
+    case VRADOMIL_OP_ANDN:
+        return old & ~operand;
+    default:
+        return old ^ operand;
+    }
+}
+
+static inline bool compares(uint32_t cmp, uint32_t old, uint32_t cmparg)
+{
+    switch (cmp) {
+    case VRADOMIL_CMP_EQ:
+        return old == cmparg;
+    case VRADOMIL_CMP_NE:
+        return old != cmparg;
+    case VRADOMIL_CMP_LT:
+        return old < cmparg;
+    case VRADOMIL_CMP_LE:
+        return old <= cmparg;
+    case VRADOMIL_CMP_GT:
+        return old > cmparg;
+    default:
+        return old >= cmparg;
+    }
+}
+
+static inline int32_t wake_op(const struct call *c)
+{
+    uint32_t op = c->val3 >> 28, cmp = c->val3 >> 24 & 15;
+    int32_t refusal = refuse_two(c);
+    if (refusal != 0)
+        return refusal;
+    if ((op & 7) > VRADOMIL_OP_XOR || cmp > VRADOMIL_CMP_GE)
+        return VRADOMIL_ENOSYS;
+    uint32_t old = load(c->area + c->uaddr2);
+    uint32_t new = operate(op, c->val3 >> 12 & 4095, old);
+    memcpy(c->area + c->uaddr2, &new, sizeof new);
+    int32_t released = release(c->t, c->process, c->uaddr, ALL_ONES, c->val);
+    if (compares(cmp, old, c->val3 & 4095))
+        released += release(c->t, c->process, c->uaddr2, ALL_ONES, c->cap2);
+    return released;
+}
+
+static inline int32_t command(const struct call *c)
+{
+    switch (c->op & ~(uint32_t)VRADOMIL_PRIVATE) {
+    case VRADOMIL_WAIT:
+        return wait(c, ALL_ONES, saturating_add(c->t->clock, c->timeout));
+    case VRADOMIL_WAIT_BITSET:
+        return wait(c, c->val3, c->timeout);
+    case VRADOMIL_WAKE:
+        return wake(c, ALL_ONES);
+    case VRADOMIL_WAKE_BITSET:
+        return wake(c, c->val3);
+    case VRADOMIL_REQUEUE:
+        return requeue(c, false);
+    case VRADOMIL_CMP_REQUEUE:
+        return requeue(c, true);
+    case VRADOMIL_WAKE_OP:
+        return wake_op(c);
+    default:
+        return VRADOMIL_ENOSYS;
+    }
+}
+
+#endif
