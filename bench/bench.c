@@ -1,20 +1,26 @@
 /*
- * Times the library against plain.c on the same events: many short batches, the two sides by turns, each batch on tables that were
- * copied into place just before, outside the time. Prints the median time of a call and the median ratio.
+ * Times the library against plain.c and tuned.c on the same events: many short batches, the three sides by turns, each batch on
+ * tables that were copied into place just before, outside the time. Prints the median time of a call and the median ratios.
  */
 #define _GNU_SOURCE
 #include "kinds.h"
 #include "plain.h"
+#include "tuned.h"
 
 #include <stdio.h>
 #include <stdlib.h>
 #include <string.h>
 #include <time.h>
 
-/* A batch's tables fit the first cache; the samples differ enough that no branch is foreseen by heart. */
-enum { BATCH = 24, SAMPLES = 40 * BATCH, ROUNDS = 2000 };
+/*
+ * A batch's tables fit the first cache. Forty batches differ enough that no branch is foreseen by heart, which is hard on code that
+ * branches on what the tables hold; with a single batch, over and over, the processor knows them all, which is kind to it.
+ */
+enum { BATCH = 24, BATCHES = 40, SAMPLES = BATCHES * BATCH, ROUNDS = 2000 };
+enum { LIBRARY, PLAIN, TUNED, SIDES };
 
 struct kernel {
+    const char *name;
     int32_t (*call)(uint8_t *, size_t, uint8_t *, size_t, uint8_t, uint8_t, uint32_t, uint32_t, uint32_t, uint8_t, uint64_t,
                     uint32_t, uint32_t);
     int32_t (*store)(const uint8_t *, size_t, uint8_t *, size_t, uint8_t, uint32_t, uint32_t);
@@ -23,8 +29,11 @@ struct kernel {
     uint32_t (*query)(const uint8_t *, size_t, uint8_t);
 };
 
-static const struct kernel library = {vradomil_call, vradomil_store, vradomil_clock, vradomil_interrupt, vradomil_query};
-static const struct kernel plain = {plain_call, plain_store, plain_clock, plain_interrupt, plain_query};
+static const struct kernel kernels[SIDES] = {
+    [LIBRARY] = {"library", vradomil_call, vradomil_store, vradomil_clock, vradomil_interrupt, vradomil_query},
+    [PLAIN] = {"plain", plain_call, plain_store, plain_clock, plain_interrupt, plain_query},
+    [TUNED] = {"tuned", tuned_call, tuned_store, tuned_clock, tuned_interrupt, tuned_query},
+};
 
 /* What one side works on, and what it answered. */
 struct side {
@@ -33,8 +42,9 @@ struct side {
     uint32_t words[VRADOMIL_WORDS];
 };
 
+static size_t batches = BATCHES; /* how many are run by turns */
 static struct sample samples[SAMPLES];
-static struct side sides[2];
+static struct side sides[SIDES];
 
 static double now(void)
 {
@@ -72,21 +82,26 @@ static double run_batch(const struct kernel *k, struct side *s, const struct sam
     return (now() - start - timer) / BATCH;
 }
 
-/* Both sides must have answered alike, as the kind says, and left the same bytes. */
+static void fail(const struct kind *kind, int side, const char *what)
+{
+    printf("bench: %s: %s differs from the library, or from the kind, in %s\n", kind->name, kernels[side].name, what);
+    exit(1);
+}
+
+/* Each side must have answered as the library, as the kind says, and left the same bytes. */
 static void check(const struct kind *kind)
 {
-    for (size_t i = 0; i < BATCH; i++) {
-        int64_t answer = sides[0].answers[i];
-        if (answer != sides[1].answers[i] || answer < kind->least || answer > kind->most ||
-            memcmp(&sides[0].tables[i], &sides[1].tables[i], sizeof sides[0].tables[i]) != 0) {
-            printf("bench: %s: the library answered %lld, plain %lld, or their tables differ\n", kind->name,
-                   (long long)answer, (long long)sides[1].answers[i]);
-            exit(1);
+    const struct side *library = &sides[LIBRARY];
+    for (int side = 0; side < SIDES; side++) {
+        for (size_t i = 0; i < BATCH; i++) {
+            int64_t answer = sides[side].answers[i];
+            if (answer != library->answers[i] || answer < kind->least || answer > kind->most)
+                fail(kind, side, "an answer");
         }
-    }
-    if (memcmp(sides[0].words, sides[1].words, sizeof sides[0].words) != 0) {
-        printf("bench: %s: the words differ\n", kind->name);
-        exit(1);
+        if (memcmp(sides[side].tables, library->tables, sizeof library->tables) != 0)
+            fail(kind, side, "the tables");
+        if (memcmp(sides[side].words, library->words, sizeof library->words) != 0)
+            fail(kind, side, "the words");
     }
 }
 
@@ -113,42 +128,70 @@ static double timer_cost(void)
     return median(costs, 1000);
 }
 
-/* Prints one line; gives the ratio. */
-static double measure(int number, int sleepers, double timer)
+static void prepare(int number, int sleepers)
 {
-    static double times[2][ROUNDS], ratios[ROUNDS];
-    const struct kernel *kernels[2] = {&library, &plain};
     for (size_t i = 0; i < SAMPLES; i++)
         make_sample(&samples[i], number, sleepers);
-    for (size_t side = 0; side < 2; side++)
+    for (int side = 0; side < SIDES; side++)
         for (size_t i = 0; i < VRADOMIL_WORDS; i++)
             sides[side].words[i] = WORD_VALUE;
-    for (size_t round = 0; round < ROUNDS; round++) {
-        const struct sample *first = &samples[round * BATCH % SAMPLES];
-        for (size_t turn = 0; turn < 2; turn++) {
-            size_t side = (round + turn) % 2; /* each goes first every other time */
-            times[side][round] = run_batch(kernels[side], &sides[side], first, timer);
-        }
-        check(&kinds[number]);
-        ratios[round] = times[0][round] / times[1][round];
-    }
-    double ratio = median(ratios, ROUNDS);
-    printf("%-24s %8d %10.1f %10.1f %8.2f\n", kinds[number].name, sleepers, median(times[1], ROUNDS), median(times[0], ROUNDS),
-           ratio);
-    return ratio;
 }
 
-int main(void)
+/* Prints one line; gives the library's time over that of each side. */
+static void measure(int number, int sleepers, double timer, double over[SIDES])
+{
+    static double times[SIDES][ROUNDS], ratios[SIDES][ROUNDS];
+    double middle[SIDES];
+    prepare(number, sleepers);
+    for (size_t round = 0; round < ROUNDS; round++) {
+        const struct sample *first = &samples[round % batches * BATCH];
+        size_t step = 1 + round / SIDES % 2; /* so that the six orders come by turns */
+        for (size_t turn = 0; turn < SIDES; turn++) {
+            size_t side = (round + turn * step) % SIDES;
+            times[side][round] = run_batch(&kernels[side], &sides[side], first, timer);
+        }
+        check(&kinds[number]);
+        for (int side = 0; side < SIDES; side++)
+            ratios[side][round] = times[LIBRARY][round] / times[side][round];
+    }
+    for (int side = 0; side < SIDES; side++) {
+        middle[side] = median(times[side], ROUNDS);
+        over[side] = median(ratios[side], ROUNDS);
+    }
+    printf("%-24s %8d %10.1f %10.1f %10.1f %14.2f %14.2f\n", kinds[number].name, sleepers, middle[PLAIN], middle[TUNED],
+           middle[LIBRARY], over[PLAIN], over[TUNED]);
+}
+
+static void summary(int side, double *ratios, size_t n)
+{
+    double middle = median(ratios, n);
+    printf("library/%s: median %.2f, lowest %.2f, highest %.2f", kernels[side].name, middle, ratios[0], ratios[n - 1]);
+}
+
+int main(int argc, char **argv)
 {
     static const int sleepers[] = {0, 1, 32, 63};
-    double ratios[KINDS * 4], timer = timer_cost();
+    double against_plain[KINDS * 4], against_tuned[KINDS * 4], over[SIDES], timer = timer_cost();
     size_t n = 0;
-    printf("%-24s %8s %10s %10s %8s\n", "event", "sleepers", "plain ns", "library ns", "ratio");
+    if (argc > 1)
+        batches = strtoul(argv[1], NULL, 10);
+    if (argc > 2 || batches < 1 || batches > BATCHES) {
+        fprintf(stderr, "usage: bench [BATCHES], 1 to %d\n", BATCHES);
+        return 2;
+    }
+    printf("%-24s %8s %10s %10s %10s %14s %14s\n", "event", "sleepers", "plain ns", "tuned ns", "library ns", "library/plain",
+           "library/tuned");
     for (int kind = 0; kind < KINDS; kind++)
-        for (size_t k = 0; k < 4; k++)
-            if (sleepers[k] >= kinds[kind].fewest)
-                ratios[n++] = measure(kind, sleepers[k], timer);
-    double middle = median(ratios, n);
-    printf("library/plain: median %.2f, lowest %.2f, highest %.2f\n", middle, ratios[0], ratios[n - 1]);
+        for (size_t k = 0; k < 4; k++) {
+            if (sleepers[k] < kinds[kind].fewest)
+                continue;
+            measure(kind, sleepers[k], timer, over);
+            against_plain[n] = over[PLAIN];
+            against_tuned[n++] = over[TUNED];
+        }
+    summary(PLAIN, against_plain, n);
+    printf("; ");
+    summary(TUNED, against_tuned, n);
+    printf("\n");
     return 0;
 }
