@@ -41,7 +41,7 @@ fn counted(n: u32, s: State) -> Performed
 }
 
 // The number, or 0.
-fn only_if(test: bool, n: u32) -> u32
+pub fn only_if(test: bool, n: u32) -> u32
     ensures { λ r. ⌜ (r ≡ cond test n 0) × (r ≤ n) ⌝ }
 {
     if test { n } else { 0 }

@@ -1,26 +1,28 @@
 -- The clock's and an interrupt's sleepers, and the waiting set.
 use mathlib.Core.Path.{_≡_, refl, sym, ap, _∙_}
-use mathlib.Core.Bool.{Bool, true, false}
+use mathlib.Core.Bool.{Bool, true, false, not, cond, _&&_, _||_, or-true}
 use mathlib.Core.List.{List}
-use Prim.Native.Nat.{ℕ, _+_, _*_, _^_, _<_}
+use Prim.Native.Nat.{ℕ, _+_, _*_, _^_, _≤_, _<_}
+use native.Mathlib.Nat.{pow-suc}
 use native.Mathlib.Omega.{arith}
 use native.Mathlib.Numerals.{add-one}
+use lib.Pow.{pow-mono}
 use lib.ListN.{length, take, set, replicate}
 use lib.Seq.{take-all}
-use lib.Dec.{eqb}
-use borrow.Author.Tests.{eqb-true, eqb-false}
+use lib.Dec.{eqb, ltb, leb}
+use borrow.Author.Tests.{eqb-true, eqb-false, ltb-true, ltb-false, lt-leb, le-leb}
 use Rattle.lists.specs.Lists.{filter, bit}
-use Rattle.lists.proofs.Tests.{cases}
+use Rattle.lists.proofs.Tests.{cases, clash, and-intro, and-left, and-right}
 use Rattle.lists.proofs.Filter.{length-filter, getD-replicated}
 use Rattle.lists.proofs.Occurs.{filter-agree, filter-same}
 use Rattle.tables.specs.declared.State.{State}
 use Rattle.tables.specs.declared.Taken.{Taken}
 use Rattle.tables.specs.declared.LastAnswer.the-variants.{TimedOut, Interrupted}
 use Rattle.rules.specs.declared.answer.Answer.the-variants.{Count}
-use Rattle.tables.specs.Sizes.{threads}
-use Rattle.tables.specs.Tables.{World, threadOf, arrivals, expired, expiredSleepers, withClock, endSleeps}
+use Rattle.tables.specs.Sizes.{processes, threadsPerProcess, threads}
+use Rattle.tables.specs.Tables.{World, threadOf, tablesOk, arrivals, expired, expiredSleepers, withClock, endSleeps}
 use Rattle.tables.specs.Steps.{Flags, flagged, endFirst}
-use Rattle.rules.specs.Events.{bitsBelow, clockEffect, interruptEffect}
+use Rattle.rules.specs.Events.{bitsBelow, waitingSet, clockEffect, interruptEffect}
 use Rattle.kernel.specs.Follows.{world, answered}
 use Rattle.tables.proofs.Sound.{Sound, waiting-below, listed-waiting, arrivals-fit}
 use Rattle.tables.proofs.Flags.{flag-here, flag-there}
@@ -69,5 +71,40 @@ unfolding interruptEffect
 interrupt-words t w = cases (threadOf (w .state) t .waiting) (λ e. rw e) (λ e. rw e)
 
 -- one bit more
-pub bitsBelow-next : (n : ℕ) (f : ℕ → Bool) → bitsBelow (n + 1) f ≡ bitsBelow n f + bit (f n) * 2 ^ n
+bitsBelow-next : (n : ℕ) (f : ℕ → Bool) → bitsBelow (n + 1) f ≡ bitsBelow n f + bit (f n) * 2 ^ n
 bitsBelow-next n f = rw (add-one n) (unfold bitsBelow in refl)
+
+-- A loop that sets a bit for each thread of a process has set those below i.
+pub record Bits (waits : ℕ → Bool) (bits one i : ℕ) : Type 0 where
+  pub within : i ≤ threadsPerProcess
+  pub value : one ≡ 2 ^ i
+  pub done : bits ≡ bitsBelow i waits
+  pub below : bits < one
+
+pub bits-start : (waits : ℕ → Bool) → Bits waits 0 1 0
+unfolding bitsBelow
+bits-start waits = record { within = omega arith; value = refl; done = refl; below = omega arith }
+
+-- the value stays below a word's
+pub bits-limit : {waits : ℕ → Bool} {bits one i : ℕ} → Bits waits bits one i → one ≤ 2 ^ threadsPerProcess
+bits-limit g = rw (g .value) (pow-mono (g .within))
+
+pub bits-next : (waits : ℕ → Bool) (bits one i b : ℕ) → Bits waits bits one i → i < threadsPerProcess → b ≡ bit (waits i) * one → b ≤ one
+    → Bits waits (bits + b) (one * 2) (i + 1)
+bits-next waits bits one i b g more is few =
+    record {
+      within = omega arith;
+      value = ap (_* 2) (g .value) ∙ sym (rw (add-one i) (pow-suc 2 i));
+      done = cc (g .done, is, g .value, bitsBelow-next i waits);
+      below = omega (arith, g .below);
+    }
+
+-- a panel query: the process exists and the tables keep the rules, or nobody waits
+pub shown : (s : State) (p : ℕ) → (tablesOk s && ltb p processes) ≡ true → waitingSet p s ≡ cond (leb processes p || not (tablesOk s)) 0 (waitingSet p s)
+shown s p h =
+    rw (and-left (tablesOk s) (ltb p processes) h, lt-leb processes p (ltb-true p processes (and-right (tablesOk s) (ltb p processes) h)))
+
+pub hidden : (s : State) (p : ℕ) → (tablesOk s && ltb p processes) ≡ false → 0 ≡ cond (leb processes p || not (tablesOk s)) 0 (waitingSet p s)
+hidden s p h = cases (ltb p processes)
+    (λ e. cases (tablesOk s) (λ d. clash (tablesOk s && ltb p processes) (and-intro d e) h) (λ d. rw (d, or-true (leb processes p))))
+    (λ e. rw (le-leb processes p (ltb-false p processes e)))

@@ -77,7 +77,7 @@ pub fn interrupt(s: State, words: &[u32], process: u8, index: u8) -> Answered
 }
 
 // The place value of a bit that is set, or 0.
-fn bit_at(set: bool, value: u32) -> u32
+pub fn bit_at(set: bool, value: u32) -> u32
     ensures { λ r. ⌜ (r ≡ bit set * value) × (r ≤ value) ⌝ }
 {
     if set { value } else { 0 }

@@ -1,6 +1,6 @@
 -- Counting the numbers below a bound, and lists of different numbers below it.
-use mathlib.Core.Path.{_≡_, refl, ap}
-use mathlib.Core.Bool.{Bool, true, not, _&&_}
+use mathlib.Core.Path.{_≡_, refl, sym, ap, _∙_}
+use mathlib.Core.Bool.{Bool, true, false, not, _&&_}
 use mathlib.Core.List.{List, [], _∷_}
 use Prim.Native.Nat.{ℕ, suc, zero, _+_, _≤_, _<_}
 use native.Mathlib.Numerals.{add-one}
@@ -31,6 +31,34 @@ pub everyBelow-ext : (n : ℕ) (f g : ℕ → Bool) → ((t : ℕ) → t < n →
 unfolding everyBelow
 everyBelow-ext zero f g h = refl
 everyBelow-ext (suc n) f g h = cc (everyBelow-ext n f g (λ t l. h t (omega arith)), h n (omega arith))
+
+and-swap : (a b x y : Bool) → (a && x && (b && y)) ≡ (a && b && (x && y))
+and-swap true true x y = refl
+and-swap true false true y = refl
+and-swap true false false y = refl
+and-swap false b x y = refl
+
+pub everyBelow-and : (n : ℕ) (f g : ℕ → Bool) → everyBelow n (λ t. f t && g t) ≡ (everyBelow n f && everyBelow n g)
+unfolding everyBelow
+everyBelow-and zero f g = refl
+everyBelow-and (suc n) f g =
+    ap (λ b. b && (f n && g n)) (everyBelow-and n f g) ∙ sym (and-swap (everyBelow n f) (everyBelow n g) (f n) (g n))
+
+-- A loop that tests every number below n has tested those below i.
+pub record Tested (n : ℕ) (f : ℕ → Bool) (ok : Bool) (i : ℕ) : Type 0 where
+  pub within : i ≤ n
+  pub done : ok ≡ everyBelow i f
+
+pub tested-start : (n : ℕ) (f : ℕ → Bool) → Tested n f true 0
+unfolding everyBelow
+tested-start n f = record { within = omega arith; done = refl }
+
+pub tested-next : (n : ℕ) (f : ℕ → Bool) (ok good : Bool) (i : ℕ) → Tested n f ok i → i < n → good ≡ f i → Tested n f (ok && good) (i + 1)
+tested-next n f ok good i g more is =
+    record { within = omega arith; done = cc (g .done, is, everyBelow-next i f) }
+
+pub tested-all : (n : ℕ) (f : ℕ → Bool) (ok : Bool) (i : ℕ) → Tested n f ok i → n ≤ i → ok ≡ everyBelow n f
+tested-all n f ok i g end = let e : i ≡ n = omega (arith, g .within) in g .done ∙ rw e
 
 pub countBelow-ext : (n : ℕ) (f g : ℕ → Bool) → ((t : ℕ) → t < n → f t ≡ g t) → countBelow n f ≡ countBelow n g
 unfolding countBelow

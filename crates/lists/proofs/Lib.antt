@@ -6,3 +6,4 @@ pub mod Count
 pub mod Loops
 pub mod Stores
 pub mod LittleEndian
+pub mod Tabulate

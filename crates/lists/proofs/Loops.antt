@@ -6,7 +6,7 @@ use Prim.Native.Nat.{ℕ, zero, suc, _+_, _-_, _≤_, _<_}
 use native.Mathlib.Numerals.{add-one}
 use native.Mathlib.Omega.{arith}
 use lib.ListN.{length, take, drop, getD, set, replicate, length-append}
-use lib.Seq.{take-nil, drop-nil, take-suc, drop-cons, set-append-seam}
+use lib.Seq.{take-nil, drop-nil, take-suc, take-suc-set, drop-cons, set-append-seam}
 use lib.Dec.{eqb, ltb}
 use borrow.Author.Tests.{lt-ltb}
 use Rattle.lists.specs.Lists.{filter, all, elem, without, distinct, padTo, passed, bit}
@@ -20,6 +20,12 @@ module _ {A : Type 0} where
 
   pub drop-next : (l : List A) (j : ℕ) (d : A) → j < length l → drop j l ≡ getD l j d ∷ drop (j + 1) l
   drop-next l j d h = rw add-one (drop-cons l j d h)
+
+  -- one element more of a list that is copied
+  pub copy-next : (xs ys : List A) (i : ℕ) (v d : A) → i < length xs → i < length ys → take i xs ≡ take i ys → v ≡ getD ys i d
+      → take (i + 1) (set xs i v) ≡ take (i + 1) ys
+  copy-next xs ys i v d h l done is =
+      ap (λ n. take n (set xs i v)) (add-one i) ∙ take-suc-set xs i v h ∙ (λ k. done k ++ (is k ∷ [])) ∙ sym (take-next ys i d l)
 
   pub length-snoc : (l : List A) (x : A) → length (l ++ (x ∷ [])) ≡ length l + 1
   length-snoc l x = length-append l (x ∷ [])

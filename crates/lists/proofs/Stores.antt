@@ -1,14 +1,37 @@
 -- Stores of several values from a place on.
-use mathlib.Core.Path.{_≡_}
+use mathlib.Core.Path.{_≡_, refl, ap, _∙_}
 use mathlib.Core.List.{List, [], _∷_, _++_}
-use Prim.Native.Nat.{ℕ, suc, _+_}
+use Prim.Native.Nat.{ℕ, suc, _+_, _≤_}
 use native.Mathlib.Omega.{arith}
 use native.Mathlib.Nat.{add-zero}
-use lib.ListN.{length, set}
-use lib.Seq.{sets}
+use lib.ListN.{length, set, length-set}
+use lib.Seq.{sets, set-append-left}
 
 pub sets-append : {A : Type 0} (l : List A) (i : ℕ) (vs ws : List A) → sets (sets l i vs) (i + length vs) ws ≡ sets l i (vs ++ ws)
 sets-append l i [] ws = rw add-zero
 sets-append l i (v ∷ vs) ws =
     let e : i + suc (length vs) ≡ suc i + length vs = omega arith in
     rw e (sets-append (set l i v) (suc i) vs ws)
+
+-- a list joined from two: stores in the one, or in the other
+pub sets-cons : {A : Type 0} (x : A) (xs : List A) (i : ℕ) (vs : List A) → sets (x ∷ xs) (suc i) vs ≡ x ∷ sets xs i vs
+sets-cons x xs i [] = refl
+sets-cons x xs i (v ∷ vs) = sets-cons x (set xs i v) (suc i) vs
+
+pub sets-left : {A : Type 0} (xs ys : List A) (i : ℕ) (vs : List A) → i + length vs ≤ length xs → sets (xs ++ ys) i vs ≡ sets xs i vs ++ ys
+sets-left xs ys i [] h = refl
+sets-left xs ys i (v ∷ vs) h =
+    ap (λ l. sets l (suc i) vs) (set-append-left xs ys i v (omega arith)) ∙ sets-left (set xs i v) ys (suc i) vs (rw length-set (omega arith))
+
+pub sets-right : {A : Type 0} (xs ys : List A) (i : ℕ) (vs : List A) → sets (xs ++ ys) (length xs + i) vs ≡ xs ++ sets ys i vs
+sets-right [] ys i vs = let e : 0 + i ≡ i = omega arith in rw e
+sets-right (x ∷ xs) ys i vs =
+    let e : suc (length xs) + i ≡ suc (length xs + i) = omega arith in
+    rw e (sets-cons x (xs ++ ys) (length xs + i) vs ∙ ap (λ l. x ∷ l) (sets-right xs ys i vs))
+
+-- every value of a list stored over
+pub sets-all : {A : Type 0} (xs vs : List A) → length xs ≡ length vs → sets xs 0 vs ≡ vs
+sets-all [] [] h = refl
+sets-all [] (v ∷ vs) h = absurd (omega arith)
+sets-all (x ∷ xs) [] h = absurd (omega arith)
+sets-all (x ∷ xs) (v ∷ vs) h = sets-cons v xs 0 vs ∙ ap (λ l. v ∷ l) (sets-all xs vs (omega arith))

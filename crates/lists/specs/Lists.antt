@@ -25,6 +25,11 @@ module _ {ℓ} {A : Type ℓ} where
   abbrev pub padTo : ℕ → A → List A → List A
   padTo n z xs = xs ++ replicate (n - length xs) z
 
+  -- f 0, f 1, .. up to n elements
+  abbrev pub tabulate : ℕ → (ℕ → A) → List A
+  tabulate zero f = []
+  tabulate (suc n) f = f zero ∷ tabulate n (λ i. f (suc i))
+
   -- what is left of the list when the first n elements that pass the test are taken out
   abbrev pub passed : (A → Bool) → ℕ → List A → List A
   passed f n [] = []

@@ -2,21 +2,26 @@
 use mathlib.Core.Path.{_≡_, refl, sym, ap, _∙_}
 use mathlib.Core.Bool.{true, false, cond, or-true, or-false}
 use mathlib.Core.List.{List, [], _∷_, _++_}
-use Prim.Native.Nat.{ℕ, _<_, _-_}
+use Prim.Native.Nat.{ℕ, _+_, _<_, _-_}
 use native.Mathlib.Omega.{arith}
-use lib.ListN.{length, getD, set, replicate, length-set}
+use lib.ListN.{length, take, getD, set, replicate, length-set}
 use lib.Seq.{take-append-seam, getD-set-same, getD-set-other, ext-getD}
 use lib.Dec.{eqb}
 use borrow.Author.Tests.{eqb-true, eqb-false}
 use Rattle.lists.specs.Lists.{update, elem, without}
 use Rattle.lists.proofs.Tests.{cases}
 use Rattle.lists.proofs.Occurs.{eqb-refl, elem-append, without-append}
+use Rattle.lists.proofs.Loops.{take-next}
 use Rattle.lists.proofs.Update.{length-update, getD-update, getD-update-fixed, update-comm, update-id}
 use Rattle.tables.specs.declared.State.{State}
 use Rattle.tables.specs.declared.Thread.{Thread}
 use Rattle.tables.specs.declared.LastAnswer.{LastAnswer}
+use Rattle.tables.specs.declared.LastAnswer.the-variants.{NoneYet}
+use Rattle.tables.specs.declared.Change.{Change}
+use Rattle.tables.specs.declared.Change.the-variants.{End, MoveTo}
 use Rattle.tables.specs.Sizes.{threads, noEntry}
-use Rattle.tables.specs.Tables.{arrivals, change, ended, withArrivals, withThreads, endSleeps, moveSleeps}
+use Rattle.tables.specs.Tables.{running, arrivals, change, ended, withArrivals, withThreads, endSleeps, moveSleeps}
+use Rattle.tables.specs.Steps.{changedBy}
 
 -- records
 pub length-change : (f : Thread → Thread) (ts : List ℕ) (rs : List Thread) → length (change f ts rs) ≡ length rs
@@ -100,3 +105,15 @@ pub end-append : (a : LastAnswer) (us ts : List ℕ) (s : State) → endSleeps a
 unfolding endSleeps
 end-append a us ts s =
     cc (change-append a us ts (s .threads), arrivals-with (without us (arrivals s)) (withThreads (change (ended a) us (s .threads)) s), without-append us ts (arrivals s))
+
+-- a change that is made to one thread after another: one thread more
+again : (how : Change) (r : Thread) → changedBy how (changedBy how r) ≡ changedBy how r
+again (End a) r = refl
+again (MoveTo a) r = refl
+
+pub changed-next : (how : Change) (s₀ s : State) (ts : List ℕ) (i x : ℕ) (u : Thread) → i < length ts → x < length (s₀ .threads)
+    → s ≡ withThreads (change (changedBy how) (take i ts) (s₀ .threads)) s₀ → x ≡ getD ts i 0
+    → u ≡ changedBy how (getD (s .threads) x (running NoneYet))
+    → withThreads (set (s .threads) x u) s ≡ withThreads (change (changedBy how) (take (i + 1) ts) (s₀ .threads)) s₀
+changed-next how s₀ s ts i x u h l done is new =
+    cc (take-next ts i 0 h, change-next (changedBy how) (again how) (take i ts) (s₀ .threads) x (running NoneYet) l)

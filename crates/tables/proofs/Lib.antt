@@ -3,3 +3,4 @@ pub mod Sound
 pub mod Kept
 pub mod Stored
 pub mod Flags
+pub mod Checked

@@ -1,25 +1,14 @@
 use borrow.Author.Needs.{needs}
-use mathlib.Core.Path.{_≡_, sym, ap, _∙_}
-use mathlib.Core.Bool.{true, false, not, cond, _&&_, _||_, or-true}
-use Prim.Native.Nat.{ℕ}
-use lib.Dec.{ltb, leb}
-use borrow.Author.Tests.{ltb-true, ltb-false, lt-leb, le-leb}
-use Rattle.lists.proofs.Tests.{cases, clash, by-cases, and-intro, and-right, and-left}
-use Rattle.tables.specs.declared.State.{State}
+use mathlib.Core.Path.{sym, ap, _∙_}
+use mathlib.Core.Bool.{_&&_}
+use lib.Dec.{ltb}
+use borrow.Author.Tests.{ltb-true}
+use Rattle.lists.proofs.Tests.{by-cases, and-right}
 use Rattle.tables.specs.Sizes.{processes}
-use Rattle.tables.specs.Tables.{tablesOk}
-use Rattle.rules.specs.Events.{waitingSet, panelOf, panel}
+use Rattle.rules.specs.Events.{panelOf, panel}
+use Rattle.kernel.proofs.Events.{shown, hidden}
 use Rattle.kernel.proofs.event.query.Statement.{statement}
 use Rattle.kernel.proofs.event.query.Tie as tie
-
-shown : (s : State) (p : ℕ) → (tablesOk s && ltb p processes) ≡ true → waitingSet p s ≡ cond (leb processes p || not (tablesOk s)) 0 (waitingSet p s)
-shown s p h =
-    rw (and-left (tablesOk s) (ltb p processes) h, lt-leb processes p (ltb-true p processes (and-right (tablesOk s) (ltb p processes) h)))
-
-hidden : (s : State) (p : ℕ) → (tablesOk s && ltb p processes) ≡ false → 0 ≡ cond (leb processes p || not (tablesOk s)) 0 (waitingSet p s)
-hidden s p h = cases (ltb p processes)
-    (λ e. cases (tablesOk s) (λ d. clash (tablesOk s && ltb p processes) (and-intro d e) h) (λ d. rw (d, or-true (leb processes p))))
-    (λ e. rw (le-leb processes p (ltb-false p processes e)))
 
 tables-ok-requires : tie.Need-tables-ok-requires
 tables-ok-requires c κs = search needs

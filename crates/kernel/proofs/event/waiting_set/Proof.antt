@@ -1,45 +1,30 @@
-use mathlib.Core.Path.{_≡_, refl, sym, ap, _∙_}
+use mathlib.Core.Path.{_≡_, ap, _∙_}
 use mathlib.Core.Bool.{Bool}
-use Prim.Native.Nat.{ℕ, _+_, _*_, _-_, _^_, _≤_, _<_}
-use native.Mathlib.Nat.{pow-suc}
-use native.Mathlib.Numerals.{add-one}
+use Prim.Native.Nat.{ℕ, _-_}
 use native.Mathlib.Omega.{arith}
 use borrow.Author.Needs.{needs}
-use lib.Pow.{pow-mono}
-use Rattle.lists.specs.Lists.{bit}
 use Rattle.tables.specs.declared.State.{State}
 use Rattle.tables.specs.Sizes.{threadsPerProcess}
 use Rattle.tables.specs.Tables.{threadNumber, threadOf}
 use Rattle.rules.specs.Events.{bitsBelow, waitingSet}
-use Rattle.kernel.proofs.Events.{bitsBelow-next}
+use Rattle.kernel.proofs.Events.{Bits, bits-start, bits-limit, bits-next}
 use Rattle.kernel.proofs.event.waiting_set.Statement.{statement}
 use Rattle.kernel.proofs.event.waiting_set.Tie as tie
 
 abbrev waits : State → ℕ → ℕ → Bool
 waits s process i = threadOf s (threadNumber process i) .waiting
 
-record Going (s : State) (process bits one i : ℕ) : Type 0 where
-  within : i ≤ threadsPerProcess
-  value : one ≡ 2 ^ i
-  done : bits ≡ bitsBelow i (waits s process)
-  below : bits < one
-
 abbrev Inv-loop : tie.InvT-loop
-Inv-loop process s bits₀ one₀ base i₀ bits one i = Going s process bits one i
+Inv-loop process s bits₀ one₀ base i₀ bits one i = Bits (waits s process) bits one i
 
 abbrev μ-loop : tie.MeasureT-loop
 μ-loop process s bits₀ one₀ base i₀ bits one i = threadsPerProcess - i
-
--- the value stays below a word's
-limit : {s : State} {process bits one i : ℕ} → Going s process bits one i → one ≤ 2 ^ threadsPerProcess
-limit g = rw (g .value) (pow-mono (g .within))
 
 mul-base : tie.Need-mul-base Inv-loop μ-loop
 mul-base c = omega arith
 
 loop-holds : tie.Need-loop-holds Inv-loop μ-loop
-unfolding bitsBelow
-loop-holds c = record { within = omega arith; value = refl; done = refl; below = omega arith }
+loop-holds c = bits-start _
 
 add-t : tie.Need-add-t Inv-loop μ-loop
 add-t c = omega arith
@@ -54,10 +39,10 @@ bit-at-requires : tie.Need-bit-at-requires Inv-loop μ-loop
 bit-at-requires c κs = search needs
 
 add-bits : tie.Need-add-bits Inv-loop μ-loop
-add-bits c = omega (arith, limit (c .before .before .before .loop .inv), c .bit-at .ensures .1, c .before .before .before .loop .inv .below)
+add-bits c = omega (arith, bits-limit (c .before .before .before .loop .inv), c .bit-at .ensures .1, c .before .before .before .loop .inv .below)
 
 mul-one : tie.Need-mul-one Inv-loop μ-loop
-mul-one c = omega (arith, limit (c .before .before .before .loop .inv))
+mul-one c = omega (arith, bits-limit (c .before .before .before .loop .inv))
 
 add-i : tie.Need-add-i Inv-loop μ-loop
 add-i c = omega arith
@@ -65,25 +50,14 @@ add-i c = omega arith
 loop-less : tie.Need-loop-less Inv-loop μ-loop
 loop-less c = omega arith
 
--- one turn
-turn : (s : State) (process bits one i b : ℕ) → Going s process bits one i → i < threadsPerProcess → b ≡ bit (waits s process i) * one → b ≤ one
-    → Going s process (bits + b) (one * 2) (i + 1)
-turn s process bits one i b g more is few =
-    record {
-      within = omega arith;
-      value = ap (_* 2) (g .value) ∙ sym (rw (add-one i) (pow-suc 2 i));
-      done = cc (g .done, is, g .value, bitsBelow-next i (waits s process));
-      below = omega (arith, g .below);
-    }
-
 loop-again : tie.Need-loop-again Inv-loop μ-loop
 loop-again c =
     let k = c .before .before .before in
     let g = k .before in
-    turn (g .args .t1) (g .args .process) (k .loop .bits) (k .loop .one) (k .loop .i) (c .bit-at .result) (k .loop .inv) (omega arith) (c .bit-at .ensures .0) (c .bit-at .ensures .1)
+    bits-next (waits (g .args .t1) (g .args .process)) (k .loop .bits) (k .loop .one) (k .loop .i) (c .bit-at .result) (k .loop .inv) (omega arith) (c .bit-at .ensures .0) (c .bit-at .ensures .1)
 
 cast-result : tie.Need-cast-result Inv-loop μ-loop
-cast-result c = omega (arith, limit (c .before .loop .inv), c .before .loop .inv .below)
+cast-result c = omega (arith, bits-limit (c .before .loop .inv), c .before .loop .inv .below)
 
 returns : tie.Need-returns Inv-loop μ-loop
 unfolding waitingSet

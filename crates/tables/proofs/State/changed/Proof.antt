@@ -1,20 +1,16 @@
 -- The loop has changed the first i threads.
 use borrow.Author.Needs.{needs}
-use mathlib.Core.Path.{_≡_, refl, sym, ap, _∙_}
+use mathlib.Core.Path.{_≡_, sym, ap, _∙_}
 use mathlib.Core.List.{List}
-use Prim.Native.Nat.{ℕ, _+_, _-_, _≤_, _<_}
+use Prim.Native.Nat.{ℕ, _-_, _≤_}
 use native.Mathlib.Omega.{arith}
-use lib.ListN.{length, take, getD, set, length-map}
-use Rattle.lists.proofs.Loops.{take-next}
+use lib.ListN.{length, take, getD, length-map}
 use Rattle.tables.specs.declared.State.{State}
-use Rattle.tables.specs.declared.Thread.{Thread}
-use Rattle.tables.specs.declared.LastAnswer.the-variants.{NoneYet}
 use Rattle.tables.specs.declared.Change.{Change}
-use Rattle.tables.specs.declared.Change.the-variants.{End, MoveTo}
 use Rattle.tables.specs.Sizes.{threads}
-use Rattle.tables.specs.Tables.{running, change, withThreads}
+use Rattle.tables.specs.Tables.{change, withThreads}
 use Rattle.tables.specs.Steps.{changedBy}
-use Rattle.tables.proofs.Changes.{change-none, change-next}
+use Rattle.tables.proofs.Changes.{change-none, changed-next}
 use Rattle.tables.proofs.State.changed.Statement.{statement}
 use Rattle.tables.proofs.State.changed.Tie as tie
 
@@ -27,10 +23,6 @@ Inv-loop n how self₀ ts i₀ self i = Going how self₀ ts n self i
 
 abbrev μ-loop : tie.MeasureT-loop
 μ-loop n how self₀ ts i₀ self i = n - i
-
-again : (how : Change) (r : Thread) → changedBy how (changedBy how r) ≡ changedBy how r
-again (End a) r = refl
-again (MoveTo a) r = refl
 
 loop-holds : tie.Need-loop-holds Inv-loop μ-loop
 loop-holds c =
@@ -64,14 +56,6 @@ add-i c = omega arith
 loop-less : tie.Need-loop-less Inv-loop μ-loop
 loop-less c = omega arith
 
--- one turn
-turn : (how : Change) (s₀ s : State) (ts : List ℕ) (i x : ℕ) (u : Thread) → i < length ts → x < length (s₀ .threads)
-    → s ≡ withThreads (change (changedBy how) (take i ts) (s₀ .threads)) s₀ → x ≡ getD ts i 0
-    → u ≡ changedBy how (getD (s .threads) x (running NoneYet))
-    → withThreads (set (s .threads) x u) s ≡ withThreads (change (changedBy how) (take (i + 1) ts) (s₀ .threads)) s₀
-turn how s₀ s ts i x u h l done is new =
-    cc (take-next ts i 0 h, change-next (changedBy how) (again how) (take i ts) (s₀ .threads) x (running NoneYet) l)
-
 long : (c : tie.Start Inv-loop μ-loop) → length (c .args .t1 .threads) ≡ threads
 long c = simp length-map at (c .good .0 .1 .1 .1 .0 .1 .0 .1)
 
@@ -87,7 +71,7 @@ loop-again c =
     let x : c .before .before .index-of .result ≡ getD (g .args .t2) i 0 = c .before .before .index-of .ensures ∙ omega arith in
     record {
       within = omega arith;
-      done = turn (g .args .how) (g .args .t1) (k .before .loop .self) (g .args .t2) i (c .before .before .index-of .result) (c .changed .result)
+      done = changed-next (g .args .how) (g .args .t1) (k .before .loop .self) (g .args .t2) i (c .before .before .index-of .result) (c .changed .result)
           (omega (arith, size g)) (omega (arith, long g)) (k .before .loop .inv .done) x (c .changed .ensures);
     }
 

@@ -1,25 +1,20 @@
-use mathlib.Core.Path.{_≡_, refl, _∙_}
+use mathlib.Core.Path.{refl}
 use mathlib.Core.Bool.{Bool}
-use mathlib.Core.List.{List}
-use Prim.Native.Nat.{ℕ, _-_, _≤_, _<_}
+use Prim.Native.Nat.{ℕ, _-_}
 use native.Mathlib.Omega.{arith}
 use borrow.Author.Needs.{needs}
-use lib.ListN.{length, length-set}
 use Rattle.tables.specs.declared.State.{State}
 use Rattle.tables.specs.Sizes.{threads}
 use Rattle.tables.specs.Tables.{threadOf, expired}
-use Rattle.tables.specs.Steps.{flagged}
-use Rattle.tables.proofs.Flags.{flags-next}
+use Rattle.tables.proofs.Flags.{Filled, filled-next}
 use Rattle.tables.proofs.State.expired.Statement.{statement}
 use Rattle.tables.proofs.State.expired.Tie as tie
 
-record Going (s : State) (now : ℕ) (flags : List Bool) (i : ℕ) : Type 0 where
-  within : i ≤ threads
-  size : length flags ≡ threads
-  done : (t : ℕ) → t < i → flagged flags t ≡ expired now (threadOf s t)
+abbrev due : ℕ → State → ℕ → Bool
+due now s t = expired now (threadOf s t)
 
 abbrev Inv-loop : tie.InvT-loop
-Inv-loop now self flags₀ i₀ flags i = Going self now flags i
+Inv-loop now self flags₀ i₀ flags i = Filled (due now self) flags i
 
 abbrev μ-loop : tie.MeasureT-loop
 μ-loop now self flags₀ i₀ flags i = threads - i
@@ -49,12 +44,7 @@ loop-again : tie.Need-loop-again Inv-loop μ-loop
 loop-again c =
     let k = c .before .before .before in
     let g = k .before in
-    record {
-      within = omega arith;
-      size = length-set (k .loop .flags) (k .loop .i) (c .has-expired .result) ∙ k .loop .inv .size;
-      done = flags-next (k .loop .flags) (λ t. expired (g .args .now) (threadOf (g .args .t1) t)) (k .loop .i) (c .has-expired .result)
-          (omega (arith, k .loop .inv .size)) (k .loop .inv .done) (c .has-expired .ensures);
-    }
+    filled-next (due (g .args .now) (g .args .t1)) (k .loop .flags) (k .loop .i) (c .has-expired .result) (k .loop .inv) (omega arith) (c .has-expired .ensures)
 
 returns : tie.Need-returns Inv-loop μ-loop
 returns c t h = c .before .loop .inv .done t (omega arith)

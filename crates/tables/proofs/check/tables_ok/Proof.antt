@@ -1,45 +1,13 @@
-use mathlib.Core.Path.{_≡_, refl, ap}
-use mathlib.Core.Bool.{Bool, true, false, _&&_, Bool·beq, and-false}
-use mathlib.Core.List.{List}
-use Prim.Native.Nat.{_≤_}
+use mathlib.Core.Path.{_≡_}
+use mathlib.Core.Bool.{and-false}
 use borrow.Author.Needs.{needs}
-use borrow.Author.Tests.{eq-eqb, le-leb, lt-leb}
+use borrow.Author.Tests.{lt-leb}
 use lib.ListN.{length, length-map}
-use Rattle.lists.specs.Lists.{elem, distinct, everyBelow}
-use Rattle.lists.proofs.Count.{everyBelow-ext}
-use Rattle.tables.specs.declared.State.{State}
 use Rattle.tables.specs.Sizes.{threads}
-use Rattle.tables.specs.Tables.{threadOf, arrivals, sizesOk, numbersOk, exactOk, tailOk, recordsOk, tablesOk}
-use Rattle.tables.specs.Steps.{flagged, SeenIn}
+use Rattle.tables.specs.Tables.{sizesOk, tablesOk}
+use Rattle.tables.proofs.Checked.{checked}
 use Rattle.tables.proofs.check.tables_ok.Statement.{statement}
 use Rattle.tables.proofs.check.tables_ok.Tie as tie
-
-regroup : (n d e t r : Bool) → (n && d && t && (e && r)) ≡ (n && d && e && t && r)
-regroup true true true t r = refl
-regroup true true false true r = refl
-regroup true true false false r = refl
-regroup true false e t r = refl
-regroup false d e t r = refl
-
--- the three passes say what the rules say
-checked : (s : State) (ok tail records : Bool) (marks : List Bool) → length (s .threads) ≡ threads → length (s .list) ≡ threads → s .count ≤ threads
-    → SeenIn (arrivals s) ok marks → tail ≡ tailOk s
-    → records ≡ (everyBelow threads (λ t. Bool·beq (flagged marks t) (threadOf s t .waiting)) && recordsOk s)
-    → (ok && tail && records) ≡ tablesOk s
-unfolding tablesOk
-checked s ok tail records marks size entries few seen is all =
-    let exact = everyBelow-ext threads (λ t. Bool·beq (flagged marks t) (threadOf s t .waiting)) (λ t. Bool·beq (elem t (arrivals s)) (threadOf s t .waiting))
-    (λ t h. ap (λ b. Bool·beq b (threadOf s t .waiting)) (seen .marked t h)) in
-    cc (
-      seen .sound,
-      is,
-      all,
-      exact,
-      eq-eqb (length (s .threads)) threads size,
-      eq-eqb (length (s .list)) threads entries,
-      le-leb (s .count) threads few,
-      regroup (numbersOk s) (distinct (arrivals s)) (exactOk s) (tailOk s) (recordsOk s),
-    )
 
 long : (c : tie.Start) → length (c .args .s .threads) ≡ threads
 long c = simp length-map at (c .good .0 .1 .1 .1 .0 .1 .0 .1)

@@ -1,0 +1,120 @@
+-- The bytes of tables stand for these tables, where each number fits its field.
+use mathlib.Core.Path.{_≡_, refl, sym, ap, _∙_}
+use mathlib.Core.Bool.{Bool, true, false}
+use mathlib.Core.List.{List, [], _∷_, map}
+use Prim.Native.Nat.{ℕ, zero, suc, _+_, _*_, _^_, _≤_, _<_}
+use native.Mathlib.Omega.{arith}
+use native.Mathlib.Nat.{mul-zero, mul-suc}
+use lib.ListN.{length, take, drop, getD}
+use lib.Seq.{take-at, drop-append-add, drop-cons, ext-getD}
+use lib.Dec.{eqb}
+use borrow.Author.Tests.{eq-eqb, le-leb}
+use Rattle.lists.specs.Lists.{everyBelow, bit, tabulate}
+use Rattle.lists.specs.LittleEndian.{le, bytes, numberAt}
+use Rattle.lists.proofs.LittleEndian.{length-bytes, le-bytes}
+use Rattle.lists.proofs.Count.{everyBelow-intro}
+use Rattle.lists.proofs.Tabulate.{length-tabulate, getD-tabulate}
+use Rattle.tables.specs.declared.State.{State}
+use Rattle.tables.specs.declared.Thread.{Thread}
+use Rattle.tables.specs.declared.LastAnswer.{LastAnswer}
+use Rattle.tables.specs.declared.LastAnswer.the-variants.{NoneYet, Woken, TimedOut, Interrupted}
+use Rattle.tables.specs.Sizes.{threads}
+use Rattle.tables.specs.Tables.{running, threadOf}
+use Rattle.layout.specs.Layout.{column, columns, concat, lastByte, lastOf, waitingByte, timedByte, tablesBytes, tablesAt, stateAt, threadAt, tablesSize, flagsOk, clockAt, waitingAt, timedAt, lastAt, uaddrAt, bitsetAt, deadlineAt}
+use Rattle.layout.proofs.Columns.{length-column, before, get-column}
+use Rattle.layout.proofs.Exact.{sizes}
+use Rattle.changes.specs.Change.{Whole, Stands, Fits}
+use Rattle.changes.proofs.Writing.{sized}
+use Rattle.changes.proofs.Standing.{whole, column-read, size-held, list-held, count-held}
+
+-- a number of a column
+pub entry-read : {A : Type 0} (w : ℕ) (f : A → ℕ) (xs : List A) (i : ℕ) (d : A) → i < length xs
+    → take w (drop (w * i) (column w f xs)) ≡ bytes w (f (getD xs i d))
+entry-read w f [] i d h = absurd (omega arith)
+entry-read w f (x ∷ xs) zero d h = rw mul-zero (take-at (bytes w (f x)) (column w f xs) w (length-bytes w (f x)))
+entry-read w f (x ∷ xs) (suc i) d h =
+    let place : w * suc i ≡ length (bytes w (f x)) + w * i = rw (length-bytes w (f x), mul-suc) (omega arith) in
+    rw place (ap (take w) (drop-append-add (bytes w (f x)) (column w f xs) (w * i)) ∙ entry-read w f xs i d (omega arith))
+
+waits : (x : Bool) → eqb (bit x) 1 ≡ x
+waits true = refl
+waits false = refl
+
+flag-low : (x : Bool) → bit x < 256 ^ 1
+flag-low true = omega arith
+flag-low false = omega arith
+
+flag-fits : (x : Bool) → bit x ≤ 1
+flag-fits true = omega arith
+flag-fits false = omega arith
+
+last-back : (a : LastAnswer) → lastOf (lastByte a) ≡ a
+last-back NoneYet = refl
+last-back Woken = refl
+last-back TimedOut = refl
+last-back Interrupted = refl
+
+last-low : (a : LastAnswer) → (lastByte a < 256 ^ 1) × (lastByte a ≤ 3)
+last-low NoneYet = (omega arith, omega arith)
+last-low Woken = (omega arith, omega arith)
+last-low TimedOut = (omega arith, omega arith)
+last-low Interrupted = (omega arith, omega arith)
+
+module _ (s : State) (b : List ℕ) (h : Stands s b) (fit : Fits s) where
+  abbrev shape : Whole s
+  shape = whole s (h .sound)
+
+  -- a number of the j-th column, which holds w bytes of each record
+  number-read : (j w at : ℕ) (f : Thread → ℕ) → before j sizes ≡ at → getD (columns s) j [] ≡ column w f (s .threads) → (i : ℕ) → i < threads
+      → f (threadOf s i) < 256 ^ w → (k : ℕ) → k ≡ at + w * i → w * i + w ≤ w * threads → numberAt w k b ≡ f (threadOf s i)
+  unfolding tablesBytes
+  number-read j w at f place is i low small k here inside =
+      let long : length (getD (columns s) j []) ≡ w * threads = ap length is ∙ length-column w f (s .threads) ∙ ap (w *_) (shape .records) in
+      let there : k ≡ before j (map length (columns s)) + w * i = here ∙ ap (_+ w * i) (sym place ∙ ap (before j) (sym (sized s shape))) in
+      ap (λ l. numberAt w k l) (h .bytes)
+      ∙ ap (λ n. numberAt w n (concat (columns s))) there
+      ∙ ap le (get-column (columns s) j (w * i) w (rw long inside) ∙ ap (λ c. take w (drop (w * i) c)) is
+      ∙ entry-read w f (s .threads) i (running NoneYet) (omega (arith, shape .records)))
+      ∙ le-bytes w (f (threadOf s i)) small
+
+  byte-read : (j at : ℕ) (f : Thread → ℕ) → before j sizes ≡ at → at + threads ≤ tablesSize → getD (columns s) j [] ≡ column 1 f (s .threads) → (i : ℕ) → i < threads
+      → f (threadOf s i) < 256 ^ 1 → getD b (at + i) 0 ≡ f (threadOf s i)
+  byte-read j at f place fits is i low small =
+      let one : numberAt 1 (at + i) b ≡ getD b (at + i) 0 = rw (drop-cons b (at + i) 0 (omega (arith, size-held s b h))) (omega arith) in
+      sym one ∙ number-read j 1 at f place is i low small (at + i) (omega arith) (omega arith)
+
+  thread-back : (i : ℕ) → i < threads → threadAt b i ≡ threadOf s i
+  thread-back i low =
+      let r = threadOf s i in
+      let g = fit .records i low in
+      let waiting = ap (λ n. eqb n 1) (byte-read 3 waitingAt waitingByte refl (omega arith) refl i low (flag-low (r .waiting))) ∙ waits (r .waiting) in
+      let timed = ap (λ n. eqb n 1) (byte-read 4 timedAt timedByte refl (omega arith) refl i low (flag-low (r .timed))) ∙ waits (r .timed) in
+      let last = ap lastOf (byte-read 5 lastAt (λ q. lastByte (q .last)) refl (omega arith) refl i low (last-low (r .last) .0)) ∙ last-back (r .last) in
+      let uaddr = number-read 6 4 uaddrAt (λ q. q .uaddr) refl refl i low (g .uaddr) (uaddrAt + 4 * i) refl (omega arith) in
+      let bitset = number-read 7 4 bitsetAt (λ q. q .bitset) refl refl i low (g .bitset) (bitsetAt + 4 * i) refl (omega arith) in
+      let deadline = number-read 8 8 deadlineAt (λ q. q .deadline) refl refl i low (g .deadline) (deadlineAt + 8 * i) refl (omega arith) in
+      λ j. record { waiting = waiting j; uaddr = uaddr j; bitset = bitset j; timed = timed j; deadline = deadline j; last = last j }
+
+  state-back : stateAt b ≡ s
+  unfolding stateAt tablesBytes
+  state-back =
+      let clock : numberAt 8 clockAt b ≡ s .clock =
+      ap (λ l. numberAt 8 clockAt l) (h .bytes) ∙ ap le (column-read (columns s) (sized s shape) 0 clockAt 8 (bytes 8 (s .clock)) refl refl refl) ∙ le-bytes 8 (s .clock) (fit .clock) in
+      let records : tabulate threads (threadAt b) ≡ s .threads =
+      ext-getD (running NoneYet) (tabulate threads (threadAt b)) (s .threads) (length-tabulate threads (threadAt b) ∙ sym (shape .records))
+      (λ i l. let low : i < threads = omega (arith, length-tabulate threads (threadAt b)) in getD-tabulate threads (threadAt b) i (running NoneYet) low ∙ thread-back i low) in
+      let list = list-held s b h in
+      let count = count-held s b h in
+      λ j. record { clock = clock j; threads = records j; list = list j; count = count j }
+
+  flags-held : everyBelow threads (flagsOk b) ≡ true
+  flags-held = everyBelow-intro threads (flagsOk b)
+      (λ i low. let r = threadOf s i in
+      let w = byte-read 3 waitingAt waitingByte refl (omega arith) refl i low (flag-low (r .waiting)) in
+      let t = byte-read 4 timedAt timedByte refl (omega arith) refl i low (flag-low (r .timed)) in
+      let a = byte-read 5 lastAt (λ q. lastByte (q .last)) refl (omega arith) refl i low (last-low (r .last) .0) in
+      rw (le-leb (getD b (waitingAt + i) 0) 1 (omega (arith, w, flag-fits (r .waiting))), le-leb (getD b (timedAt + i) 0) 1 (omega (arith, t, flag-fits (r .timed))), le-leb (getD b (lastAt + i) 0) 3 (omega (arith, a, last-low (r .last) .1))))
+
+  pub tables-back : tablesAt b ≡ s
+  unfolding tablesAt
+  tables-back = rw (eq-eqb (length b) tablesSize (size-held s b h), flags-held) state-back

@@ -1,0 +1,5 @@
+pub mod Writing
+pub mod Standing
+pub mod Changing
+pub mod Taking
+pub mod Faithful

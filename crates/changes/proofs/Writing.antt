@@ -1,0 +1,139 @@
+-- A store in a column of the tables' bytes is a change of the tables.
+use mathlib.Core.Path.{_≡_, refl, sym, ap, _∙_}
+use mathlib.Core.List.{List, [], _∷_, map}
+use Prim.Native.Nat.{ℕ, zero, suc, _+_, _*_, _≤_, _<_}
+use native.Mathlib.Omega.{arith}
+use lib.ListN.{length, getD, set}
+use lib.Seq.{sets, length-sets}
+use Rattle.lists.specs.LittleEndian.{bytes}
+use Rattle.lists.proofs.Stores.{sets-all}
+use Rattle.tables.specs.declared.State.{State}
+use Rattle.tables.specs.declared.Thread.{Thread}
+use Rattle.tables.specs.declared.LastAnswer.the-variants.{NoneYet}
+use Rattle.tables.specs.Sizes.{threads}
+use Rattle.tables.specs.Tables.{running, threadOf, movedTo, withThreads, withClock}
+use Rattle.layout.specs.Layout.{column, columns, concat, tablesBytes, lastByte, waitingByte, timedByte, clockAt, countAt, listAt, waitingAt, timedAt, lastAt, uaddrAt, bitsetAt, deadlineAt}
+use Rattle.changes.specs.Change.{Whole}
+use Rattle.layout.proofs.Columns.{length-column, column-set, column-same, before, put-column}
+use Rattle.layout.proofs.Exact.{sizes}
+
+-- columns of these sizes, one of them with a store
+lengths-set : (cs : List (List ℕ)) (j : ℕ) (new : List ℕ) → length new ≡ getD (map length cs) j 0 → map length (set cs j new) ≡ map length cs
+lengths-set [] j new h = refl
+lengths-set (c ∷ cs) zero new h = ap (λ n. n ∷ map length cs) h
+lengths-set (c ∷ cs) (suc j) new h = ap (λ l. length c ∷ l) (lengths-set cs j new h)
+
+length-of : (cs : List (List ℕ)) (j : ℕ) → length (getD cs j []) ≡ getD (map length cs) j 0
+length-of [] j = refl
+length-of (c ∷ cs) zero = refl
+length-of (c ∷ cs) (suc j) = length-of cs j
+
+-- bytes in columns of these sizes
+record InColumns (b : List ℕ) (cs : List (List ℕ)) : Type 0 where
+  stored : b ≡ concat cs
+  sized : map length cs ≡ sizes
+
+put : (b : List ℕ) (cs ds : List (List ℕ)) → InColumns b cs → (j k at : ℕ) (vs : List ℕ) → before j sizes + k ≡ at → k + length vs ≤ getD sizes j 0
+    → (new : List ℕ) → sets (getD cs j []) k vs ≡ new → set cs j new ≡ ds → InColumns (sets b at vs) ds
+put b cs ds c j k at vs place fits new is all =
+    let long : length (getD cs j []) ≡ getD sizes j 0 = length-of cs j ∙ ap (λ ns. getD ns j 0) (c .sized) in
+    let here : before j (map length cs) + k ≡ at = ap (λ ns. before j ns + k) (c .sized) ∙ place in
+    record {
+      stored = ap (λ l. sets l at vs) (c .stored) ∙ ap (λ n. sets (concat cs) n vs) (sym here) ∙ put-column cs j k vs (rw long fits)
+          ∙ ap (λ l. concat (set cs j l)) is ∙ ap concat all;
+      sized = ap (map length) (sym all) ∙ lengths-set cs j new (ap length (sym is) ∙ length-sets (getD cs j []) k vs ∙ length-of cs j) ∙ c .sized;
+    }
+
+module _ (s : State) (w : Whole s) where
+  size-of : (n : ℕ) (f : Thread → ℕ) → length (column n f (s .threads)) ≡ n * threads
+  size-of n f = length-column n f (s .threads) ∙ ap (n *_) (w .records)
+
+  pub sized : map length (columns s) ≡ sizes
+  sized =
+      λ i. 8 ∷ 8 ∷ w .entries i ∷ size-of 1 waitingByte i ∷ size-of 1 timedByte i ∷ size-of 1 (λ r. lastByte (r .last)) i
+      ∷ size-of 4 (λ r. r .uaddr) i ∷ size-of 4 (λ r. r .bitset) i ∷ size-of 8 (λ r. r .deadline) i ∷ []
+
+  -- the record of a thread, field by field
+  module _ (i : ℕ) (low : i < threads) (r : Thread) where
+    new : (n : ℕ) (f : Thread → ℕ) → sets (column n f (s .threads)) (n * i) (bytes n (f r)) ≡ column n f (set (s .threads) i r)
+    new n f = sym (column-set n f (s .threads) i r (omega (arith, w .records)))
+
+    abbrev ts : List Thread
+    ts = s .threads
+
+    abbrev us : List Thread
+    us = set (s .threads) i r
+
+    -- the tables in columns, each of these or of those records
+    abbrev half : List Thread → List Thread → List Thread → List Thread → List Thread → List Thread → List (List ℕ)
+    half x3 x4 x5 x6 x7 x8 =
+        bytes 8 (s .clock) ∷ bytes 8 (s .count) ∷ s .list ∷ column 1 waitingByte x3 ∷ column 1 timedByte x4 ∷ column 1 (λ q. lastByte (q .last)) x5
+        ∷ column 4 (λ q. q .uaddr) x6 ∷ column 4 (λ q. q .bitset) x7 ∷ column 8 (λ q. q .deadline) x8 ∷ []
+
+    pub thread-put : (b : List ℕ) → b ≡ tablesBytes s
+        → sets (sets (sets (sets (sets (sets b (waitingAt + i) (bytes 1 (waitingByte r))) (timedAt + i) (bytes 1 (timedByte r))) (lastAt + i) (bytes 1 (lastByte (r .last)))) (uaddrAt + 4 * i) (bytes 4 (r .uaddr))) (bitsetAt + 4 * i) (bytes 4 (r .bitset))) (deadlineAt + 8 * i) (bytes 8 (r .deadline))
+        ≡ tablesBytes (withThreads (set (s .threads) i r) s)
+    unfolding tablesBytes
+    thread-put b is = p8 (p7 (p6 (p5 (p4 (p3 (record { stored = is; sized = sized })))))) .stored
+      where
+        p3 : {l : List ℕ} → InColumns l (half ts ts ts ts ts ts) → InColumns (sets l (waitingAt + i) (bytes 1 (waitingByte r))) (half us ts ts ts ts ts)
+        p3 {l} c = put l (half ts ts ts ts ts ts) (half us ts ts ts ts ts) c 3 (1 * i) (waitingAt + i) (bytes 1 (waitingByte r)) (omega arith) (omega arith) _ (new 1 waitingByte) refl
+
+        p4 : {l : List ℕ} → InColumns l (half us ts ts ts ts ts) → InColumns (sets l (timedAt + i) (bytes 1 (timedByte r))) (half us us ts ts ts ts)
+        p4 {l} c = put l (half us ts ts ts ts ts) (half us us ts ts ts ts) c 4 (1 * i) (timedAt + i) (bytes 1 (timedByte r)) (omega arith) (omega arith) _ (new 1 timedByte) refl
+
+        p5 : {l : List ℕ} → InColumns l (half us us ts ts ts ts) → InColumns (sets l (lastAt + i) (bytes 1 (lastByte (r .last)))) (half us us us ts ts ts)
+        p5 {l} c = put l (half us us ts ts ts ts) (half us us us ts ts ts) c 5 (1 * i) (lastAt + i) (bytes 1 (lastByte (r .last))) (omega arith) (omega arith) _ (new 1 (λ q. lastByte (q .last))) refl
+
+        p6 : {l : List ℕ} → InColumns l (half us us us ts ts ts) → InColumns (sets l (uaddrAt + 4 * i) (bytes 4 (r .uaddr))) (half us us us us ts ts)
+        p6 {l} c = put l (half us us us ts ts ts) (half us us us us ts ts) c 6 (4 * i) (uaddrAt + 4 * i) (bytes 4 (r .uaddr)) (omega arith) (omega arith) _ (new 4 (λ q. q .uaddr)) refl
+
+        p7 : {l : List ℕ} → InColumns l (half us us us us ts ts) → InColumns (sets l (bitsetAt + 4 * i) (bytes 4 (r .bitset))) (half us us us us us ts)
+        p7 {l} c = put l (half us us us us ts ts) (half us us us us us ts) c 7 (4 * i) (bitsetAt + 4 * i) (bytes 4 (r .bitset)) (omega arith) (omega arith) _ (new 4 (λ q. q .bitset)) refl
+
+        p8 : {l : List ℕ} → InColumns l (half us us us us us ts) → InColumns (sets l (deadlineAt + 8 * i) (bytes 8 (r .deadline))) (half us us us us us us)
+        p8 {l} c = put l (half us us us us us ts) (half us us us us us us) c 8 (8 * i) (deadlineAt + 8 * i) (bytes 8 (r .deadline)) (omega arith) (omega arith) _ (new 8 (λ q. q .deadline)) refl
+
+  -- the address of a thread
+  pub address-put : (i a : ℕ) → i < threads → (b : List ℕ) → b ≡ tablesBytes s
+      → sets b (uaddrAt + 4 * i) (bytes 4 a) ≡ tablesBytes (withThreads (set (s .threads) i (movedTo a (threadOf s i))) s)
+  unfolding tablesBytes
+  address-put i a low b is =
+      let r = movedTo a (threadOf s i) in
+      let ts = set (s .threads) i r in
+      let same : (n : ℕ) (f : Thread → ℕ) → f r ≡ f (threadOf s i) → column n f (s .threads) ≡ column n f ts =
+      λ n f e. sym (column-same n f (s .threads) i r (running NoneYet) e) in
+      let e3 = same 1 waitingByte refl in
+      let e4 = same 1 timedByte refl in
+      let e5 = same 1 (λ q. lastByte (q .last)) refl in
+      let e7 = same 4 (λ q. q .bitset) refl in
+      let e8 = same 8 (λ q. q .deadline) refl in
+      put b (columns s) _ (record { stored = is; sized = sized }) 6 (4 * i) (uaddrAt + 4 * i) (bytes 4 a) (omega arith) (omega arith)
+      (column 4 (λ q. q .uaddr) ts) (new i low r 4 (λ q. q .uaddr)) refl .stored
+      ∙ (λ j. concat (bytes 8 (s .clock) ∷ bytes 8 (s .count) ∷ s .list ∷ e3 j ∷ e4 j ∷ e5 j ∷ column 4 (λ q. q .uaddr) ts ∷ e7 j ∷ e8 j ∷ []))
+
+  -- the list, or one entry of it, and the count
+  counted : (l : List ℕ) (b : List ℕ) (n : ℕ) → InColumns b (set (columns s) 2 l)
+      → sets b countAt (bytes 8 n) ≡ tablesBytes (record { clock = s .clock; threads = s .threads; list = l; count = n })
+  unfolding tablesBytes
+  counted l b n c =
+      put b (set (columns s) 2 l) _ c 1 0 countAt (bytes 8 n) refl (omega arith) (bytes 8 n) (sets-all (bytes 8 (s .count)) (bytes 8 n) refl) refl .stored
+
+  pub list-put : (list : List ℕ) (n : ℕ) → length list ≡ threads → (b : List ℕ) → b ≡ tablesBytes s
+      → sets (sets b listAt list) countAt (bytes 8 n) ≡ tablesBytes (record { clock = s .clock; threads = s .threads; list = list; count = n })
+  unfolding tablesBytes
+  list-put list n long b is =
+      counted list (sets b listAt list) n
+      (put b (columns s) (set (columns s) 2 list) (record { stored = is; sized = sized }) 2 0 listAt list refl (omega (arith, long)) list (sets-all (s .list) list (w .entries ∙ sym long)) refl)
+
+  pub entry-put : (k t n : ℕ) → k < threads → (b : List ℕ) → b ≡ tablesBytes s
+      → sets (set b (listAt + k) t) countAt (bytes 8 n) ≡ tablesBytes (record { clock = s .clock; threads = s .threads; list = set (s .list) k t; count = n })
+  unfolding tablesBytes
+  entry-put k t n low b is =
+      counted (set (s .list) k t) (set b (listAt + k) t) n
+      (put b (columns s) (set (columns s) 2 (set (s .list) k t)) (record { stored = is; sized = sized }) 2 k (listAt + k) (t ∷ []) refl (omega arith) (set (s .list) k t) refl refl)
+
+  pub clock-put : (now : ℕ) (b : List ℕ) → b ≡ tablesBytes s → sets b clockAt (bytes 8 now) ≡ tablesBytes (withClock now s)
+  unfolding tablesBytes
+  clock-put now b is =
+      put b (columns s) _ (record { stored = is; sized = sized }) 0 0 clockAt (bytes 8 now) refl (omega arith) (bytes 8 now) (sets-all (bytes 8 (s .clock)) (bytes 8 now) refl) refl .stored

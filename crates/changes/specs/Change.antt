@@ -1,0 +1,48 @@
+-- What a change of the tables does to their bytes.
+use mathlib.Core.Path.{_≡_}
+use mathlib.Core.Bool.{true}
+use mathlib.Core.List.{List}
+use Prim.Native.Nat.{ℕ, _^_, _<_}
+use lib.ListN.{length}
+use Rattle.tables.specs.declared.State.{State}
+use Rattle.tables.specs.declared.Thread.{Thread}
+use Rattle.tables.specs.declared.Taken.{Taken}
+use Rattle.tables.specs.Sizes.{threads}
+use Rattle.tables.specs.Tables.{threadOf, tablesOk}
+use Rattle.layout.specs.Layout.{tablesBytes}
+
+-- "64 thread records and one arrival list"
+pub record Whole (s : State) : Type 0 where
+  pub records : length (s .threads) ≡ threads
+  pub entries : length (s .list) ≡ threads
+
+-- Bytes of tables become the bytes of the changed tables.
+abbrev pub Writes : (State → State) → List ℕ → List ℕ → Type 0
+Writes f b after = (s : State) → Whole s → b ≡ tablesBytes s → after ≡ tablesBytes (f s)
+
+-- tables that keep the rules, and their bytes
+pub record Stands (s : State) (b : List ℕ) : Type 0 where
+  pub bytes : b ≡ tablesBytes s
+  pub sound : tablesOk s ≡ true
+
+pub record Standing (b : List ℕ) : Type 0 where
+  pub state : State
+  pub stands : Stands state b
+
+-- a change that takes sleepers: how many, and the bytes of the tables that it leaves
+pub record Took (t : Taken) (n : ℕ) (after : List ℕ) : Type 0 where
+  pub number : n ≡ t .n
+  pub bytes : after ≡ tablesBytes (t .state)
+
+abbrev pub Takes : (State → Taken) → List ℕ → ℕ → List ℕ → Type 0
+Takes f b n after = (s : State) → Stands s b → Took (f s) n after
+
+-- each number fits its field, as in all tables that code holds
+pub record FitsThread (r : Thread) : Type 0 where
+  pub uaddr : r .uaddr < 256 ^ 4
+  pub bitset : r .bitset < 256 ^ 4
+  pub deadline : r .deadline < 256 ^ 8
+
+pub record Fits (s : State) : Type 0 where
+  pub clock : s .clock < 256 ^ 8
+  pub records : (i : ℕ) → i < threads → FitsThread (threadOf s i)

@@ -1,0 +1,150 @@
+// Changes: the changes of the tables, on their bytes where they lie. It stands on layout.
+ghost use mathlib.Core.Path.{_≡_};
+ghost use Prim.Native.Nat.{_<_};
+ghost use lib.ListN.{length, take, set};
+ghost use Rattle.lists.specs.Lists.{bit};
+ghost use Rattle.tables.specs.declared.Change.the-variants.{End, MoveTo};
+ghost use Rattle.tables.specs.Sizes.{threads};
+ghost use Rattle.tables.specs.Tables.{change, withThreads, asleepAt, fallAsleep};
+ghost use Rattle.tables.specs.Steps.{Numbers, changedBy, flagged, endFirst, moveFirst};
+ghost use Rattle.layout.specs.Layout.{lastByte, tablesSize, stateAt, tablesBytes};
+ghost use Rattle.layout.specs.Check.{Held};
+ghost use Rattle.changes.specs.Change.{Writes, Standing, Takes};
+use arrivals::index_of;
+use arrivals::joined;
+use arrivals::split;
+use layout::BITSET_AT;
+use layout::COUNT_AT;
+use layout::DEADLINE_AT;
+use layout::LAST_AT;
+use layout::LIST_AT;
+use layout::TIMED_AT;
+use layout::UADDR_AT;
+use layout::WAITING_AT;
+use layout::read::list_at;
+use layout::read::thread_at;
+use numbers::put_u32;
+use numbers::put_u64;
+use numbers::u64_at;
+use tables::LastAnswer;
+use tables::THREADS;
+use tables::Thread;
+
+fn flag_byte(x: bool) -> u8
+    ensures { λ r. ⌜ r ≡ bit x ⌝ }
+{
+    if x { 1 } else { 0 }
+}
+
+fn last_byte(last: LastAnswer) -> u8
+    ensures { λ r. ⌜ r ≡ lastByte last ⌝ }
+{
+    match last {
+        LastAnswer::NoneYet => 0,
+        LastAnswer::Woken => 1,
+        LastAnswer::TimedOut => 2,
+        LastAnswer::Interrupted => 3,
+    }
+}
+
+// The record of a thread.
+fn put_thread(b: &mut [u8], i: usize, t: Thread)
+    requires { ⌜ (length (now b) ≡ tablesSize) × (i < threads) ⌝ }
+    ensures { λ _. ⌜ Writes (λ s. withThreads (set (s .threads) i t) s) (now (b .entry)) (now (b .exit)) ⌝ }
+{
+    let waiting = flag_byte(t.waiting);
+    let timed = flag_byte(t.timed);
+    let last = t.last;
+    let answer = last_byte(last);
+    b[WAITING_AT + i] = waiting;
+    b[TIMED_AT + i] = timed;
+    b[LAST_AT + i] = answer;
+    put_u32(b, UADDR_AT + 4 * i, t.uaddr);
+    put_u32(b, BITSET_AT + 4 * i, t.bitset);
+    put_u64(b, DEADLINE_AT + 8 * i, t.deadline);
+}
+
+// The arrival list and its count.
+fn put_list(b: &mut [u8], list: [u8; THREADS], count: usize)
+    requires { ⌜ length (now b) ≡ tablesSize ⌝ }
+    ensures { λ _. ⌜ Writes (λ s. record { clock = s .clock; threads = s .threads; list = list; count = count }) (now (b .entry)) (now (b .exit)) ⌝ }
+{
+    let mut i: usize = 0;
+    while i < THREADS {
+        b[LIST_AT + i] = list[i];
+        i += 1;
+    }
+    put_u64(b, COUNT_AT, count as u64);
+}
+
+// The first n threads of ts run, with the answer.
+fn end_all(b: &mut [u8], ts: [u8; THREADS], n: usize, last: LastAnswer)
+    requires { ⌜ (length (now b) ≡ tablesSize) × Numbers ts n ⌝ }
+    ensures { λ _. ⌜ Writes (λ s. withThreads (change (changedBy (End last)) (take n ts) (s .threads)) s) (now (b .entry)) (now (b .exit)) ⌝ }
+{
+    let mut i: usize = 0;
+    while i < n {
+        let x = index_of(ts[i]);
+        let t = Thread::running(last);
+        put_thread(b, x, t);
+        i += 1;
+    }
+}
+
+// The first n threads of ts sleep at the address.
+fn move_all(b: &mut [u8], ts: [u8; THREADS], n: usize, uaddr: u32)
+    requires { ⌜ (length (now b) ≡ tablesSize) × Numbers ts n ⌝ }
+    ensures { λ _. ⌜ Writes (λ s. withThreads (change (changedBy (MoveTo uaddr)) (take n ts) (s .threads)) s) (now (b .entry)) (now (b .exit)) ⌝ }
+{
+    let mut i: usize = 0;
+    while i < n {
+        let x = index_of(ts[i]);
+        put_u32(b, UADDR_AT + 4 * x, uaddr);
+        i += 1;
+    }
+}
+
+// The first cap sleepers whose flag is set end their sleep with the answer; how many. This and the functions below are called on
+// tables that keep the rules.
+pub fn end_first(b: &mut [u8], flags: [bool; THREADS], cap: usize, last: LastAnswer) -> u32
+    requires { ⌜ Standing (now b) ⌝ }
+    ensures { λ r. ⌜ Takes (endFirst last (flagged flags) cap) (now (b .entry)) r (now (b .exit)) ⌝ }
+{
+    let list = list_at(b);
+    let count = u64_at(b, COUNT_AT) as usize;
+    let parts = split(list, count, flags, cap);
+    let taken = parts.taken;
+    end_all(b, taken, parts.n, last);
+    let kept = parts.kept;
+    put_list(b, kept, parts.count);
+    parts.n as u32
+}
+
+// The first cap sleepers whose flag is set move to the address, and to the end of the list; how many.
+pub fn move_first(b: &mut [u8], flags: [bool; THREADS], cap: usize, uaddr: u32) -> u32
+    requires { ⌜ Standing (now b) ⌝ }
+    ensures { λ r. ⌜ Takes (moveFirst uaddr (flagged flags) cap) (now (b .entry)) r (now (b .exit)) ⌝ }
+{
+    let list = list_at(b);
+    let count = u64_at(b, COUNT_AT) as usize;
+    let parts = split(list, count, flags, cap);
+    let taken = parts.taken;
+    move_all(b, taken, parts.n, uaddr);
+    let kept = parts.kept;
+    let all = joined(kept, parts.count, taken, parts.n);
+    put_list(b, all, count);
+    parts.n as u32
+}
+
+// A running thread sleeps, and joins the end of the list, which has room.
+pub fn fall_asleep(b: &mut [u8], t: usize, uaddr: u32, bitset: u32, timed: bool, deadline: u64)
+    requires { ⌜ Held (now b) × ((t < threads) × (stateAt (now b) .count < threads)) ⌝ }
+    ensures { λ _. ⌜ now (b .exit) ≡ tablesBytes (fallAsleep (asleepAt uaddr bitset timed deadline) t (stateAt (now (b .entry)))) ⌝ }
+{
+    let old = thread_at(b, t);
+    let new = old.asleep_at(uaddr, bitset, timed, deadline);
+    let n = u64_at(b, COUNT_AT) as usize;
+    put_thread(b, t, new);
+    b[LIST_AT + n] = t as u8;
+    put_u64(b, COUNT_AT, (n + 1) as u64);
+}

@@ -1,0 +1,102 @@
+-- Columns of bytes: numbers of one width behind each other, and columns behind each other.
+use mathlib.Core.Path.{_≡_, refl, sym, ap, _∙_}
+use mathlib.Core.List.{List, [], _∷_, _++_, map}
+use Prim.Native.Nat.{ℕ, zero, suc, _+_, _*_, _≤_, _<_}
+use native.Mathlib.Omega.{arith}
+use native.Mathlib.Nat.{mul-zero, mul-suc, zero-add, add-zero, add-assoc}
+use lib.ListN.{length, take, drop, getD, set, length-append, length-drop}
+use lib.Seq.{sets, length-take-le, take-append-le, drop-append-le, drop-append-add, take-add, drop-drop}
+use Rattle.lists.specs.Lists.{tabulate}
+use Rattle.lists.specs.LittleEndian.{bytes, Bytes, numberAt}
+use Rattle.lists.proofs.Stores.{sets-left, sets-right, sets-all}
+use Rattle.lists.proofs.LittleEndian.{length-bytes, bytes-le, bytes-take, bytes-drop}
+use Rattle.layout.specs.Layout.{column, concat}
+
+-- bytes that are read as a number and written again
+pub exact : (b : List ℕ) → Bytes b → (w k : ℕ) → k + w ≤ length b → bytes w (numberAt w k b) ≡ take w (drop k b)
+exact b h w k fits =
+    let long : length (take w (drop k b)) ≡ w = length-take-le w (drop k b) (rw length-drop (omega arith)) in
+    ap (λ n. bytes n (numberAt w k b)) (sym long) ∙ bytes-le (take w (drop k b)) (bytes-take w (drop k b) (bytes-drop k b h))
+
+-- numbers of width w behind each other
+module _ {A : Type 0} (w : ℕ) (f : A → ℕ) where
+  pub length-column : (xs : List A) → length (column w f xs) ≡ w * length xs
+  length-column [] = sym (mul-zero w)
+  length-column (x ∷ xs) = length-append (bytes w (f x)) (column w f xs) ∙ rw (length-bytes w (f x), length-column xs, mul-suc) (omega arith)
+
+  -- one element changed is one number stored
+  pub column-set : (xs : List A) (i : ℕ) (x : A) → i < length xs → column w f (set xs i x) ≡ sets (column w f xs) (w * i) (bytes w (f x))
+  column-set [] i x h = absurd (omega arith)
+  column-set (y ∷ xs) zero x h =
+      sym (ap (λ k. sets (bytes w (f y) ++ column w f xs) k (bytes w (f x))) (mul-zero w)
+      ∙ sets-left (bytes w (f y)) (column w f xs) 0 (bytes w (f x)) (rw (length-bytes w (f x), length-bytes w (f y)) (omega arith))
+      ∙ ap (λ l. l ++ column w f xs) (sets-all (bytes w (f y)) (bytes w (f x)) (length-bytes w (f y) ∙ sym (length-bytes w (f x)))))
+  column-set (y ∷ xs) (suc i) x h =
+      let place : w * suc i ≡ length (bytes w (f y)) + w * i = rw (length-bytes w (f y), mul-suc) (omega arith) in
+      sym (ap (λ k. sets (bytes w (f y) ++ column w f xs) k (bytes w (f x))) place
+      ∙ sets-right (bytes w (f y)) (column w f xs) (w * i) (bytes w (f x))
+      ∙ ap (λ l. bytes w (f y) ++ l) (sym (column-set xs i x (omega arith))))
+
+  -- an element changed in another field
+  pub column-same : (xs : List A) (i : ℕ) (x d : A) → f x ≡ f (getD xs i d) → column w f (set xs i x) ≡ column w f xs
+  column-same [] i x d e = refl
+  column-same (y ∷ xs) zero x d e = ap (λ n. bytes w n ++ column w f xs) e
+  column-same (y ∷ xs) (suc i) x d e = ap (λ l. bytes w (f y) ++ l) (column-same xs i x d e)
+
+  -- a column that is read from bytes, number by number, is these bytes
+  pub column-tabulate : (n k : ℕ) (g : ℕ → A) (b : List ℕ) → ((i : ℕ) → i < n → bytes w (f (g i)) ≡ take w (drop (k + w * i) b))
+      → column w f (tabulate n g) ≡ take (w * n) (drop k b)
+  column-tabulate zero k g b h = rw mul-zero
+  column-tabulate (suc n) k g b h =
+      let here : k + w * 0 ≡ k = rw mul-zero (add-zero k) in
+      let first : bytes w (f (g 0)) ≡ take w (drop k b) = h 0 (omega arith) ∙ rw here in
+      let rest = column-tabulate n (k + w) (λ i. g (suc i)) b
+      (λ i l. h (suc i) (omega arith) ∙ (let e : k + w * suc i ≡ k + w + w * i = rw mul-suc (omega arith) in rw e)) in
+      let whole : w * suc n ≡ w + w * n = rw mul-suc (omega arith) in
+      (λ i. first i ++ rest i)
+      ∙ ap (λ l. take w (drop k b) ++ take (w * n) l) (sym (drop-drop w k b))
+      ∙ sym (ap (λ m. take m (drop k b)) whole ∙ take-add w (w * n) (drop k b))
+
+-- columns behind each other: where the j-th begins, by their sizes
+abbrev pub before : ℕ → List ℕ → ℕ
+before zero ns = 0
+before (suc j) [] = 0
+before (suc j) (n ∷ ns) = n + before j ns
+
+-- a store in the j-th column
+pub put-column : (cs : List (List ℕ)) (j k : ℕ) (vs : List ℕ) → k + length vs ≤ length (getD cs j [])
+    → sets (concat cs) (before j (map length cs) + k) vs ≡ concat (set cs j (sets (getD cs j []) k vs))
+put-column [] j k [] h = refl
+put-column [] j k (v ∷ vs) h = absurd (omega arith)
+put-column (c ∷ cs) zero k vs h = rw zero-add (sets-left c (concat cs) k vs h)
+put-column (c ∷ cs) (suc j) k vs h =
+    ap (λ n. sets (c ++ concat cs) n vs) (add-assoc (length c) (before j (map length cs)) k)
+    ∙ sets-right c (concat cs) (before j (map length cs) + k) vs
+    ∙ ap (λ l. c ++ l) (put-column cs j k vs h)
+
+-- a part of the j-th column
+pub get-column : (cs : List (List ℕ)) (j k w : ℕ) → k + w ≤ length (getD cs j [])
+    → take w (drop (before j (map length cs) + k) (concat cs)) ≡ take w (drop k (getD cs j []))
+get-column [] zero k w h = rw zero-add
+get-column [] (suc j) k w h = rw zero-add
+get-column (c ∷ cs) zero k w h =
+    rw (zero-add, drop-append-le k c (concat cs) (omega arith)) (take-append-le w (drop k c) (concat cs) (rw length-drop (omega arith)))
+get-column (c ∷ cs) (suc j) k w h =
+    ap (λ n. take w (drop n (c ++ concat cs))) (add-assoc (length c) (before j (map length cs)) k)
+    ∙ ap (take w) (drop-append-add c (concat cs) (before j (map length cs) + k))
+    ∙ get-column cs j k w h
+
+-- bytes cut into columns
+abbrev pub cuts : ℕ → List ℕ → List ℕ → List (List ℕ)
+cuts k [] b = []
+cuts k (n ∷ ns) b = take n (drop k b) ∷ cuts (k + n) ns b
+
+abbrev pub total : List ℕ → ℕ
+total [] = 0
+total (n ∷ ns) = n + total ns
+
+pub concat-cuts : (k : ℕ) (ns b : List ℕ) → concat (cuts k ns b) ≡ take (total ns) (drop k b)
+concat-cuts k [] b = refl
+concat-cuts k (n ∷ ns) b =
+    ap (λ l. take n (drop k b) ++ l) (concat-cuts (k + n) ns b ∙ ap (take (total ns)) (sym (drop-drop n k b)))
+    ∙ sym (take-add n (total ns) (drop k b))

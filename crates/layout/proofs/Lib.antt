@@ -1,0 +1,5 @@
+pub mod Columns
+pub mod Reading
+pub mod Exact
+pub mod Expiring
+pub mod Checks

@@ -1,0 +1,20 @@
+use borrow.Author.Tests.{ne-eqb}
+use Rattle.layout.proofs.read.last_of.Statement.{statement}
+use Rattle.layout.proofs.read.last_of.Tie as tie
+
+returns : tie.Need-returns
+returns c = rw (c .match .keys1)
+
+returns-2 : tie.Need-returns-2
+returns-2 c = rw (c .match .keys2)
+
+returns-3 : tie.Need-returns-3
+returns-3 c = rw (c .match .keys3)
+
+returns-4 : tie.Need-returns-4
+returns-4 c =
+    let n = c .before .args .n in
+    rw (ne-eqb n 0 (c .match .rest .0 .0 .1), ne-eqb n 1 (c .match .rest .0 .1), ne-eqb n 2 (c .match .rest .1))
+
+pub last-of-spec : {M : Type 1} → statement M
+last-of-spec = tie.close (tie.spec returns returns-2 returns-3 returns-4)

@@ -1,0 +1,140 @@
+-- The tables and the words as bytes: docs/TABLES.md as definitions. Numbers are little-endian.
+use mathlib.Core.Bool.{Bool, cond, _&&_}
+use mathlib.Core.List.{List, [], _∷_, _++_}
+use Prim.Native.Nat.{ℕ, _+_, _*_}
+use lib.ListN.{length, take, drop, getD}
+use lib.Dec.{eqb, leb}
+use Rattle.lists.specs.Lists.{everyBelow, bit, tabulate}
+use Rattle.lists.specs.LittleEndian.{bytes, numberAt}
+use Rattle.tables.specs.declared.State.{State}
+use Rattle.tables.specs.declared.Thread.{Thread}
+use Rattle.tables.specs.declared.LastAnswer.{LastAnswer}
+use Rattle.tables.specs.declared.LastAnswer.the-variants.{NoneYet, Woken, TimedOut, Interrupted}
+use Rattle.tables.specs.Sizes.{threads, wordBytes, memoryWords}
+
+-- one number of each element, in their order, w bytes each
+module _ {A : Type 0} where
+  abbrev pub column : ℕ → (A → ℕ) → List A → List ℕ
+  column w f [] = []
+  column w f (x ∷ xs) = bytes w (f x) ++ column w f xs
+
+abbrev pub concat : List (List ℕ) → List ℕ
+concat [] = []
+concat (c ∷ cs) = c ++ concat cs
+
+-- "the last answer is one of the four"
+abbrev pub lastByte : LastAnswer → ℕ
+lastByte NoneYet = 0
+lastByte Woken = 1
+lastByte TimedOut = 2
+lastByte Interrupted = 3
+
+abbrev pub waitingByte : Thread → ℕ
+waitingByte r = bit (r .waiting)
+
+abbrev pub timedByte : Thread → ℕ
+timedByte r = bit (r .timed)
+
+-- the tables in columns: clock, count, list, then a column for each field of the records
+abbrev pub columns : State → List (List ℕ)
+columns s =
+    bytes 8 (s .clock)
+    ∷ bytes 8 (s .count)
+    ∷ s .list
+    ∷ column 1 waitingByte (s .threads)
+    ∷ column 1 timedByte (s .threads)
+    ∷ column 1 (λ r. lastByte (r .last)) (s .threads)
+    ∷ column 4 (λ r. r .uaddr) (s .threads)
+    ∷ column 4 (λ r. r .bitset) (s .threads)
+    ∷ column 8 (λ r. r .deadline) (s .threads)
+    ∷ []
+
+-- the bytes of tables
+unfoldable pub tablesBytes : State → List ℕ
+tablesBytes s = concat (columns s)
+
+-- where each column begins
+abbrev pub clockAt : ℕ
+clockAt = 0
+
+abbrev pub countAt : ℕ
+countAt = clockAt + 8
+
+abbrev pub listAt : ℕ
+listAt = countAt + 8
+
+abbrev pub waitingAt : ℕ
+waitingAt = listAt + threads
+
+abbrev pub timedAt : ℕ
+timedAt = waitingAt + threads
+
+abbrev pub lastAt : ℕ
+lastAt = timedAt + threads
+
+abbrev pub uaddrAt : ℕ
+uaddrAt = lastAt + threads
+
+abbrev pub bitsetAt : ℕ
+bitsetAt = uaddrAt + 4 * threads
+
+abbrev pub deadlineAt : ℕ
+deadlineAt = bitsetAt + 4 * threads
+
+abbrev pub tablesSize : ℕ
+tablesSize = deadlineAt + 8 * threads
+
+abbrev pub lastOf : ℕ → LastAnswer
+lastOf n = cond (eqb n 0) NoneYet (cond (eqb n 1) Woken (cond (eqb n 2) TimedOut Interrupted))
+
+-- the record of thread i
+abbrev pub threadAt : List ℕ → ℕ → Thread
+threadAt b i =
+    record {
+      waiting = eqb (getD b (waitingAt + i) 0) 1;
+      uaddr = numberAt 4 (uaddrAt + 4 * i) b;
+      bitset = numberAt 4 (bitsetAt + 4 * i) b;
+      timed = eqb (getD b (timedAt + i) 0) 1;
+      deadline = numberAt 8 (deadlineAt + 8 * i) b;
+      last = lastOf (getD b (lastAt + i) 0);
+    }
+
+unfoldable pub stateAt : List ℕ → State
+stateAt b =
+    record {
+      clock = numberAt 8 clockAt b;
+      threads = tabulate threads (threadAt b);
+      list = take threads (drop listAt b);
+      count = numberAt 8 countAt b;
+    }
+
+-- the bytes of thread i that are not numbers stand for something
+abbrev pub flagsOk : List ℕ → ℕ → Bool
+flagsOk b i = leb (getD b (waitingAt + i) 0) 1 && leb (getD b (timedAt + i) 0) 1 && leb (getD b (lastAt + i) 0) 3
+
+-- "tables of a wrong length, or with a byte that stands for nothing"
+abbrev pub formOk : List ℕ → Bool
+formOk b = eqb (length b) tablesSize && everyBelow threads (flagsOk b)
+
+-- tables that break a rule: they have no record
+abbrev broken : State
+broken = record { clock = 0; threads = []; list = []; count = 0 }
+
+-- the tables that bytes stand for; bytes that stand for none "are -9", as tables that break a rule are
+unfoldable pub tablesAt : List ℕ → State
+tablesAt b = cond (formOk b) (stateAt b) broken
+
+-- the words: "32,768 bytes, little-endian"
+abbrev pub memorySize : ℕ
+memorySize = wordBytes * memoryWords
+
+unfoldable pub wordsBytes : List ℕ → List ℕ
+wordsBytes ws = column wordBytes (λ w. w) ws
+
+-- the n words that bytes stand for; bytes of another length stand for none
+unfoldable pub wordsOf : ℕ → List ℕ → List ℕ
+wordsOf n m = cond (eqb (length m) (wordBytes * n)) (tabulate n (λ i. numberAt wordBytes (wordBytes * i) m)) []
+
+-- "another length is -6", as no words are
+abbrev pub wordsAt : List ℕ → List ℕ
+wordsAt m = wordsOf memoryWords m

@@ -1,0 +1,26 @@
+// Layout: the tables as bytes, read and checked where they lie. It stands on tables and numbers.
+pub mod check;
+pub mod read;
+
+use tables::THREADS;
+
+// Where each column of the tables begins.
+pub const CLOCK_AT: usize = 0;
+
+pub const COUNT_AT: usize = CLOCK_AT + 8;
+
+pub const LIST_AT: usize = COUNT_AT + 8;
+
+pub const WAITING_AT: usize = LIST_AT + THREADS;
+
+pub const TIMED_AT: usize = WAITING_AT + THREADS;
+
+pub const LAST_AT: usize = TIMED_AT + THREADS;
+
+pub const UADDR_AT: usize = LAST_AT + THREADS;
+
+pub const BITSET_AT: usize = UADDR_AT + 4 * THREADS;
+
+pub const DEADLINE_AT: usize = BITSET_AT + 4 * THREADS;
+
+pub const TABLES_SIZE: usize = DEADLINE_AT + 8 * THREADS;

@@ -1,0 +1,108 @@
+// What the bytes of the tables stand for: a record, the list, and the threads that pass a test.
+ghost use mathlib.Core.Path.{_≡_};
+ghost use mathlib.Core.Bool.{_&&_, _||_};
+ghost use Prim.Native.Nat.{_+_, _<_};
+ghost use lib.ListN.{length, take, drop};
+ghost use Rattle.tables.specs.Sizes.{processes, threads};
+ghost use Rattle.tables.specs.Tables.{threadOf, expired, sharesBit, sleepsAt};
+ghost use Rattle.tables.specs.Steps.{Flags};
+ghost use Rattle.layout.specs.Layout.{lastOf, threadAt, listAt, tablesSize, stateAt};
+ghost use Rattle.layout.specs.Check.{Held};
+use crate::BITSET_AT;
+use crate::COUNT_AT;
+use crate::DEADLINE_AT;
+use crate::LAST_AT;
+use crate::LIST_AT;
+use crate::TIMED_AT;
+use crate::UADDR_AT;
+use crate::WAITING_AT;
+use arrivals::index_of;
+use numbers::u32_at;
+use numbers::u64_at;
+use tables::LastAnswer;
+use tables::NO_ENTRY;
+use tables::THREADS;
+use tables::THREADS_PER_PROCESS;
+use tables::Thread;
+
+fn last_of(n: u8) -> LastAnswer
+    ensures { λ r. ⌜ r ≡ lastOf n ⌝ }
+{
+    match n {
+        0 => LastAnswer::NoneYet,
+        1 => LastAnswer::Woken,
+        2 => LastAnswer::TimedOut,
+        _ => LastAnswer::Interrupted,
+    }
+}
+
+// The record of a thread. This and the functions below are called on tables of the right length.
+pub fn thread_at(b: &[u8], i: usize) -> Thread
+    requires { ⌜ (length (now b) ≡ tablesSize) × (i < threads) ⌝ }
+    ensures { λ r. ⌜ r ≡ threadAt (now (b .entry)) i ⌝ }
+{
+    let waiting = b[WAITING_AT + i];
+    let timed = b[TIMED_AT + i];
+    let last = last_of(b[LAST_AT + i]);
+    let uaddr = u32_at(b, UADDR_AT + 4 * i);
+    let bitset = u32_at(b, BITSET_AT + 4 * i);
+    let deadline = u64_at(b, DEADLINE_AT + 8 * i);
+    Thread {
+        waiting: waiting == 1,
+        uaddr: uaddr,
+        bitset: bitset,
+        timed: timed == 1,
+        deadline: deadline,
+        last: last,
+    }
+}
+
+// The arrival list.
+pub fn list_at(b: &[u8]) -> [u8; THREADS]
+    requires { ⌜ length (now b) ≡ tablesSize ⌝ }
+    ensures { λ r. ⌜ r ≡ take threads (drop listAt (now (b .entry))) ⌝ }
+{
+    let mut list = [NO_ENTRY; THREADS];
+    let mut i: usize = 0;
+    while i < THREADS {
+        list[i] = b[LIST_AT + i];
+        i += 1;
+    }
+    list
+}
+
+// Who sleeps at the word of a process that exists, and may be taken.
+pub fn hits(b: &[u8], process: usize, uaddr: u32, any: bool, bitset: u32) -> [bool; THREADS]
+    requires { ⌜ (length (now b) ≡ tablesSize) × (process < processes) ⌝ }
+    ensures { λ r. ⌜ Flags r (λ t. (any || sharesBit bitset (threadOf (stateAt (now (b .entry))) t)) && sleepsAt process uaddr (stateAt (now (b .entry))) t) ⌝ }
+{
+    let mut flags = [false; THREADS];
+    let base = THREADS_PER_PROCESS * process;
+    let mut i: usize = 0;
+    while i < THREADS_PER_PROCESS {
+        let t = thread_at(b, base + i);
+        let hit = t.is_hit(uaddr, any, bitset);
+        flags[base + i] = hit;
+        i += 1;
+    }
+    flags
+}
+
+// Whose deadline has come, on tables that keep the rules: only listed threads are looked at, since only they have one.
+pub fn expired(b: &[u8], time: u64) -> [bool; THREADS]
+    requires { ⌜ Held (now b) ⌝ }
+    ensures { λ r. ⌜ Flags r (λ t. expired time (threadOf (stateAt (now (b .entry))) t)) ⌝ }
+{
+    let list = list_at(b);
+    let count = u64_at(b, COUNT_AT) as usize;
+    let mut flags = [false; THREADS];
+    let mut i: usize = 0;
+    while i < count {
+        let x = index_of(list[i]);
+        let t = thread_at(b, x);
+        let hit = t.has_expired(time);
+        flags[x] = hit;
+        i += 1;
+    }
+    flags
+}

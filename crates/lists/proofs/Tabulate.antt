@@ -1,0 +1,29 @@
+-- Laws of `tabulate`.
+use mathlib.Core.Path.{_≡_, refl, ap, _∙_}
+use mathlib.Core.Bool.{Bool, _&&_}
+use mathlib.Core.List.{[], _∷_, _++_}
+use Prim.Native.Nat.{ℕ, zero, suc, _<_}
+use native.Mathlib.Omega.{arith}
+use lib.ListN.{length, getD}
+use Rattle.lists.specs.Lists.{all, everyBelow, tabulate}
+use Rattle.lists.proofs.Loops.{all-snoc}
+
+module _ {A : Type 0} where
+  pub length-tabulate : (n : ℕ) (f : ℕ → A) → length (tabulate n f) ≡ n
+  length-tabulate zero f = refl
+  length-tabulate (suc n) f = ap suc (length-tabulate n (λ i. f (suc i)))
+
+  pub getD-tabulate : (n : ℕ) (f : ℕ → A) (i : ℕ) (d : A) → i < n → getD (tabulate n f) i d ≡ f i
+  getD-tabulate zero f i d h = absurd (omega arith)
+  getD-tabulate (suc n) f zero d h = refl
+  getD-tabulate (suc n) f (suc i) d h = getD-tabulate n (λ j. f (suc j)) i d (omega arith)
+
+  -- one element more
+  tabulate-next : (n : ℕ) (f : ℕ → A) → tabulate (suc n) f ≡ tabulate n f ++ (f n ∷ [])
+  tabulate-next zero f = refl
+  tabulate-next (suc n) f = ap (λ l. f zero ∷ l) (tabulate-next n (λ i. f (suc i)))
+
+  pub all-tabulate : (q : A → Bool) (n : ℕ) (f : ℕ → A) → all q (tabulate n f) ≡ everyBelow n (λ i. q (f i))
+  unfolding everyBelow
+  all-tabulate q zero f = refl
+  all-tabulate q (suc n) f = ap (all q) (tabulate-next n f) ∙ all-snoc q (tabulate n f) (f n) ∙ ap (λ b. b && q (f n)) (all-tabulate q n f)

@@ -1,0 +1,46 @@
+use denote.Ref.{now}
+use mathlib.Core.Path.{sym, ap, _∙_}
+use Prim.Native.Nat.{_+_, _/_}
+use lib.Seq.{sets}
+use Rattle.lists.specs.LittleEndian.{bytes}
+use Rattle.numbers.proofs.Numbers.{halves-stored}
+use borrow.Author.Needs.{needs}
+use Rattle.numbers.proofs.put_u64.Statement.{statement}
+use Rattle.numbers.proofs.put_u64.Tie as tie
+use Rattle.numbers.proofs.put_u32.Reads as put-u32-reads
+
+cast-put-u32 : tie.Need-cast-put-u32
+cast-put-u32 c = search needs
+
+put-u32-requires : tie.Need-put-u32-requires
+put-u32-requires c κs = search needs
+
+add-put-u32 : tie.Need-add-put-u32
+add-put-u32 c = search needs
+
+cast-put-u32-2 : tie.Need-cast-put-u32-2
+cast-put-u32-2 c = search needs
+
+put-u32-requires-2 : tie.Need-put-u32-requires-2
+put-u32-requires-2 c κs = search needs
+
+same-length : tie.Need-same-length
+same-length c = search needs
+
+returns : tie.Need-returns
+returns c =
+    let g = c .before .before .before .before .before .before .before .before .before in
+    c .before .before .put-u322 .ensures ∙ ap (λ l. sets l (g .args .k + 4) (bytes 4 (g .args .v / 4294967296))) (c .before .before .before .before .before .before .put-u32 .ensures)
+    ∙ sym (halves-stored (now (g .args .b)) (g .args .k) (g .args .v))
+
+pub put-u64-spec : {M : Type 1} → statement M
+put-u64-spec =
+    tie.close
+    (tie.spec
+    cast-put-u32
+    put-u32-requires
+    add-put-u32
+    cast-put-u32-2
+    put-u32-requires-2
+    same-length
+    returns)

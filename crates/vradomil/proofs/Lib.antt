@@ -1,0 +1,7 @@
+pub mod Steps
+pub mod Memory
+pub mod Lending
+pub mod Waits
+pub mod Effects
+pub mod Laying
+pub mod Theorems

@@ -1,0 +1,128 @@
+use denote.Ref.{now}
+use mathlib.Core.Path.{_≡_, sym, _∙_}
+use mathlib.Core.Bool.{cond}
+use native.Mathlib.Omega.{arith}
+use Rattle.tables.specs.declared.LastAnswer.the-variants.{Woken}
+use Rattle.tables.specs.Tables.{wordAt}
+use Rattle.tables.specs.Steps.{flagged, endFirst}
+use Rattle.tables.proofs.Sound.{Sound, tables-sound}
+use Rattle.rules.specs.Commands.{commandOf}
+use Rattle.rules.specs.WakeOp.{compares}
+use Rattle.rules.specs.Calls.{secondCap}
+use Rattle.tables.specs.Tables.{world}
+use Rattle.effects.proofs.Effects.{end-sound, chosen}
+use Rattle.layout.specs.Layout.{stateAt}
+use Rattle.changes.specs.Change.{Stands, Took}
+use Rattle.vradomil.proofs.Steps.{stands}
+use Rattle.vradomil.proofs.Effects.{stands-ended, ended-few, both-done}
+use borrow.Author.Needs.{needs}
+use Rattle.vradomil.proofs.call.release_both.Statement.{statement}
+use Rattle.vradomil.proofs.call.release_both.Tie as tie
+
+uses-by-requires : tie.Need-uses-by-requires
+uses-by-requires c κs = search needs
+
+sound : (c : tie.Start) → Sound (stateAt (now (c .args .b)))
+sound c = tables-sound (stateAt (now (c .args .b))) (c .pre .held .sound)
+
+-- the first release, and the tables between it and the second
+took : (c : tie.After-end-first)
+    → let h = c .before .before .before .before .before .before .before in
+    let g = h .before .before .before .before .before .before .before in
+    Took (endFirst Woken (flagged (h .hits .result)) (g .args .c .val) (stateAt (now (g .args .b)))) (c .end-first .result) (c .end-first .last .0)
+took c =
+    let g = c .before .before .before .before .before .before .before .before .before .before .before .before .before .before in
+    c .end-first .ensures (stateAt (now (g .args .b))) (stands (now (g .args .b)) (g .pre .held))
+
+between : (c : tie.After-end-first)
+    → let h = c .before .before .before .before .before .before .before in
+    let g = h .before .before .before .before .before .before .before in
+    Stands (endFirst Woken (flagged (h .hits .result)) (g .args .c .val) (stateAt (now (g .args .b))) .state) (c .end-first .last .0)
+between c =
+    let h = c .before .before .before .before .before .before .before in
+    let g = h .before .before .before .before .before .before .before in
+    stands-ended Woken (flagged (h .hits .result)) (g .args .c .val) (stateAt (now (g .args .b))) (c .end-first .result) (c .end-first .last .0) (sound g) (took c)
+
+second-cap-requires : tie.Need-second-cap-requires
+second-cap-requires c κs = search needs
+
+cast-hits : tie.Need-cast-hits
+cast-hits c = search needs
+
+hits-requires : tie.Need-hits-requires
+hits-requires c κs = search needs
+
+cast-hits-2 : tie.Need-cast-hits-2
+cast-hits-2 c = search needs
+
+hits-requires-2 : tie.Need-hits-requires-2
+hits-requires-2 c κs = search needs
+
+cast-end-first : tie.Need-cast-end-first
+cast-end-first c = search needs
+
+end-first-requires : tie.Need-end-first-requires
+end-first-requires c κs = let g = c .before .before .before .before .before .before .before .before .before .before .before .before .before in record { state = stateAt (now (g .args .b)); stands = stands (now (g .args .b)) (g .pre .held) }
+
+only-if-requires : tie.Need-only-if-requires
+only-if-requires c κs = search needs
+
+cast-end-first-2 : tie.Need-cast-end-first-2
+cast-end-first-2 c = search needs
+
+end-first-requires-2 : tie.Need-end-first-requires-2
+end-first-requires-2 c κs = record { state = _; stands = between (c .before .before .before .before) }
+
+add-result : tie.Need-add-result
+add-result c =
+    let m = c .before .before in
+    let e = m .before .before .before .before .before in
+    let h2 = e .before .before .before in
+    let h = h2 .before .before .before .before in
+    let g = h .before .before .before .before .before .before .before in
+    let s = stateAt (now (g .args .b)) in
+    let first = ended-few Woken (flagged (h .hits .result)) (g .args .c .val) s (e .end-first .result) _ (sound g) (took e) in
+    let next = ended-few Woken (flagged (h2 .hits2 .result)) _ _ (m .end-first2 .result) _ (end-sound Woken (flagged (h .hits .result)) (g .args .c .val) s (sound g)) (m .end-first2 .ensures _ (between e)) in
+    record { fits = omega (arith, first, next) }
+
+same-length : tie.Need-same-length
+same-length c = search needs
+
+returns : tie.Need-returns
+returns c =
+    λ ws is.
+    let m = c .before .before in
+    let o = m .before .before in
+    let e = o .before .before .before in
+    let h2 = e .before .before .before in
+    let h = h2 .before .before .before .before in
+    let cap = h .before .before .before .before in
+    let u = cap .before in
+    let g = u .before .before in
+    let s = stateAt (now (g .args .b)) in
+    let k = g .args .c in
+    let at = chosen k (k .uaddr) s (sound g) (u .uses-by .result) (u .uses-by .ensures) (h .hits .result) (h .hits .ensures) in
+    let at2 = chosen k (k .uaddr2) s (sound g) (u .uses-by .result) (u .uses-by .ensures) (h2 .hits2 .result) (h2 .hits2 .ensures) in
+    let limit : o .only-if .result ≡ cond (compares (k .val3) (wordAt (world s ws) (k .process) (k .uaddr2))) (secondCap k) 0 =
+    o .only-if .ensures .0 ∙ (λ i. cond (sym is i) (cap .second-cap .ensures i) 0) in
+    both-done (commandOf (k .op)) k (world s ws) (sound g) (flagged (h .hits .result)) (flagged (h2 .hits2 .result)) at at2
+    (e .end-first .result) (m .end-first2 .result) (o .only-if .result) _ _ (took e) limit (m .end-first2 .ensures _ (between e))
+
+pub release-both-spec : {M : Type 1} → statement M
+release-both-spec =
+    tie.close
+    (tie.spec
+    uses-by-requires
+    second-cap-requires
+    cast-hits
+    hits-requires
+    cast-hits-2
+    hits-requires-2
+    cast-end-first
+    end-first-requires
+    only-if-requires
+    cast-end-first-2
+    end-first-requires-2
+    add-result
+    same-length
+    returns)

@@ -1,0 +1,187 @@
+use denote.Ref.{now}
+use mathlib.Core.Path.{_≡_, refl, sym, ap, _∙_}
+use mathlib.Core.Bool.{true, false, cond}
+use mathlib.Core.List.{[], _∷_}
+use Prim.Native.Nat.{_≤_}
+use lib.IntN.{pos}
+use native.Mathlib.Omega.{arith}
+use mir.Facts.{toZ-ofZ, toZ-pos}
+use mir.Syntax.{w32}
+use Rattle.rules.specs.declared.event.Event.{Event}
+use Rattle.tables.specs.declared.State.{State}
+use Rattle.rules.specs.declared.answer.Errno.the-variants.{EINVAL}
+use Rattle.rules.specs.declared.answer.Verdict.the-variants.{Refuse, Pass}
+use Rattle.tables.specs.Sizes.{threads}
+use Rattle.tables.specs.Steps.{flagged, endFirst}
+use Rattle.tables.proofs.Sound.{Sound, tables-sound, sound-tables}
+use Rattle.rules.specs.Answers.{first}
+use Rattle.rules.specs.Events.{refusals, effect}
+use Rattle.tables.specs.Tables.{world}
+use Rattle.layout.specs.Layout.{tablesAt, stateAt, wordsAt}
+use Rattle.layout.specs.Check.{Held}
+use Rattle.changes.specs.Change.{Took}
+use Rattle.vradomil.specs.Host.{seen}
+use Rattle.vradomil.proofs.Steps.{stands, event-refused, event-passed, ticks-refused, ticks-done}
+use Rattle.vradomil.proofs.Effects.{ended-few, answered-leaves}
+use lib.Dec.{ltb}
+use borrow.Author.Tests.{lt-ltb, le-ltb}
+use Rattle.lists.specs.LittleEndian.{bytes}
+use Rattle.tables.specs.declared.LastAnswer.the-variants.{TimedOut}
+use Rattle.rules.specs.declared.event.Event.the-variants.{Clock}
+use Rattle.rules.specs.Events.{clockEffect}
+use Rattle.effects.proofs.Effects.{end-sound}
+use Rattle.kernel.proofs.Events.{clock-ends}
+use Rattle.layout.proofs.Reading.{clock-read}
+use Rattle.changes.proofs.Writing.{clock-put}
+use Rattle.changes.proofs.Standing.{whole}
+use borrow.Author.Needs.{needs}
+use Rattle.vradomil.proofs.event.vradomil_clock.Statement.{statement}
+use Rattle.vradomil.proofs.event.vradomil_clock.Tie as tie
+
+abbrev start : tie.After-lent → tie.Start
+start c = c .before .before .before .before
+
+abbrev event : tie.Start → Event
+event g = Clock (g .args .time)
+
+-- what the first two rows have shown
+held : (c : tie.After-enum-told) → Held (now (start (c .before .before) .args .tables))
+held c = c .before .before .lent .ensures .held (c .enum-told .given .1)
+
+sound : (c : tie.After-enum-told) → Sound (stateAt (now (start (c .before .before) .args .tables)))
+sound c = tables-sound (stateAt (now (start (c .before .before) .args .tables))) (held c .sound)
+
+clock : (c : tie.After-u64-at) → c .u64-at .result ≡ tablesAt (now (start (c .before .before .before .before) .args .tables)) .clock
+clock c =
+    let p = c .before .before in
+    c .u64-at .ensures .0 ∙ clock-read (now (start (p .before .before) .args .tables)) ∙ ap (λ (s : State). s .clock) (sym (held p .tables))
+
+own : (c : tie.After-enum-told)
+    → let g = start (c .before .before) in
+    first (refusals (event g) (seen (now (g .args .tables)) (now (g .args .words)))) ≡ cond (ltb (g .args .time) (tablesAt (now (g .args .tables)) .clock)) (Refuse EINVAL) Pass
+own c =
+    let l = c .before .before in
+    let g = start l in
+    event-passed (event g) (now (g .args .tables)) (now (g .args .words)) (l .lent .result) (l .lent .ensures) refl (c .enum-told .given .1)
+
+took : (c : tie.After-end-first)
+    → let p = c .before .before .before .before .before .before .before in
+    let b = now (start (p .before .before) .args .tables) in
+    Took (endFirst TimedOut (flagged (c .before .before .expired .result)) threads (stateAt b)) (c .end-first .result) (c .end-first .last .0)
+took c =
+    let p = c .before .before .before .before .before .before .before in
+    let b = now (start (p .before .before) .args .tables) in
+    c .end-first .ensures (stateAt b) (stands b (held p))
+
+few : (c : tie.After-end-first) → c .end-first .result ≤ threads
+few c =
+    let p = c .before .before .before .before .before .before .before in
+    ended-few TimedOut (flagged (c .before .before .expired .result)) threads (stateAt (now (start (p .before .before) .args .tables))) (c .end-first .result) (c .end-first .last .0) (sound p) (took c)
+
+lent-requires : tie.Need-lent-requires
+lent-requires c κs = search needs
+
+enum-known-v : tie.Need-enum-known-v
+enum-known-v c = search needs
+
+refusal-requires : tie.Need-refusal-requires
+refusal-requires c κs = search needs
+
+enum-told : tie.Need-enum-told
+enum-told c = search needs
+
+u64-at-requires : tie.Need-u64-at-requires
+u64-at-requires c κs = omega (arith, held (c .before) .size)
+
+refusal-requires-2 : tie.Need-refusal-requires-2
+refusal-requires-2 c κs = search needs
+
+same-length : tie.Need-same-length
+same-length c = search needs
+
+returns : tie.Need-returns
+returns c =
+    let k = c .before .before in
+    let p = k .before .before in
+    let l = p .before .before in
+    let g = start l in
+    let b = now (g .args .tables) in
+    let early : ltb (g .args .time) (tablesAt b .clock) ≡ true = sym (ap (ltb (g .args .time)) (clock k)) ∙ lt-ltb (g .args .time) (k .u64-at .result) (c .before .if1 .taken) in
+    ticks-refused (event g) b (now (g .args .words)) _ EINVAL (own p ∙ rw early)
+    (ap (λ z. z ∷ []) (toZ-ofZ (c .refusal2 .ensures .1)) ∙ c .refusal2 .ensures .0)
+
+expired-requires : tie.Need-expired-requires
+expired-requires c κs = held (c .before .before .before .before)
+
+end-first-requires : tie.Need-end-first-requires
+end-first-requires c κs =
+    let p = c .before .before .before .before .before .before in
+    let b = now (start (p .before .before) .args .tables) in
+    record { state = stateAt b; stands = stands b (held p) }
+
+put-u64-requires : tie.Need-put-u64-requires
+put-u64-requires c κs = omega (arith, c .before .before .before .end-first .kept .0, held (c .before .before .before .before .before .before .before .before .before .before) .size)
+
+cast-result : tie.Need-cast-result
+cast-result c = record { sfits = omega (arith, few (c .before .before .before .before .before .before)) }
+
+same-length-2 : tie.Need-same-length-2
+same-length-2 c = search needs
+
+returns-2 : tie.Need-returns-2
+returns-2 c =
+    let l = c .before .before .before .before in
+    let g = start l in
+    ticks-refused (event g) (now (g .args .tables)) (now (g .args .words)) _ _ (event-refused (event g) (now (g .args .tables)) (now (g .args .words)) (l .lent .result) (l .lent .ensures) refl _ (c .before .before .v .given .1))
+    (ap (λ z. z ∷ []) (toZ-ofZ (c .refusal .ensures .1)) ∙ c .refusal .ensures .0)
+
+same-length-3 : tie.Need-same-length-3
+same-length-3 c = search needs
+
+returns-3 : tie.Need-returns-3
+unfolding effect clockEffect
+returns-3 c =
+    let u = c .before .before in
+    let e = u .before .before .before .before in
+    let x = e .before .before in
+    let o = x .before .before in
+    let k = o .before in
+    let p = k .before .before in
+    let l = p .before .before in
+    let g = start l in
+    let b = now (g .args .tables) in
+    let m = now (g .args .words) in
+    let s = stateAt b in
+    let time = g .args .time in
+    let f = flagged (x .expired .result) in
+    let t = endFirst TimedOut f threads s in
+    let w = whole (t .state) (sound-tables (t .state) (end-sound TimedOut f threads s (sound p))) in
+    let early : ltb time (tablesAt b .clock) ≡ false = sym (ap (ltb time) (clock k)) ∙ le-ltb time (k .u64-at .result) (o .if1 .left) in
+    ticks-done (event g) b m _ (e .end-first .result) _ (held p) (own p ∙ rw early) refl (toZ-pos w32 {n = e .end-first .result} (omega (arith, few e)))
+    (answered-leaves (clockEffect time (world s (wordsAt m))) _ (e .end-first .result) _ (clock-ends time s (wordsAt m) (sound p) (x .expired .result) (x .expired .ensures) t refl)
+    (record {
+      number = ap (λ q. pos q ∷ []) (took e .number);
+      small = omega (arith, few e);
+      bytes = u .put-u64 .ensures ∙ clock-put (t .state) w time (e .end-first .last .0) (took e .bytes);
+    }))
+
+pub vradomil-clock-spec : {M : Type 1} → statement M
+vradomil-clock-spec =
+    tie.close
+    (tie.spec
+    lent-requires
+    enum-known-v
+    refusal-requires
+    enum-told
+    u64-at-requires
+    refusal-requires-2
+    same-length
+    returns
+    expired-requires
+    end-first-requires
+    put-u64-requires
+    cast-result
+    same-length-2
+    returns-2
+    same-length-3
+    returns-3)

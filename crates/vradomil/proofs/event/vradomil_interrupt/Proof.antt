@@ -1,0 +1,171 @@
+use denote.Ref.{now}
+use mathlib.Core.Path.{_≡_, refl, sym, ap, _∙_}
+use mathlib.Core.Bool.{Bool, true, false, cond}
+use mathlib.Core.List.{List, [], _∷_}
+use Prim.Native.Nat.{ℕ, _≤_}
+use native.Mathlib.Omega.{arith}
+use lib.ListN.{set, replicate}
+use mir.Facts.{toZ-ofZ, toZ-pos}
+use mir.Syntax.{w32}
+use Rattle.tables.specs.declared.LastAnswer.the-variants.{Interrupted}
+use Rattle.rules.specs.declared.event.Event.{Event}
+use Rattle.rules.specs.declared.event.Event.the-variants.{Interrupt}
+use Rattle.rules.specs.declared.answer.Errno.the-variants.{ESRCH}
+use Rattle.rules.specs.declared.answer.Verdict.the-variants.{Refuse, Pass}
+use Rattle.tables.specs.Sizes.{threads}
+use Rattle.tables.specs.Tables.{threadNumber}
+use Rattle.tables.specs.Steps.{flagged, endFirst}
+use Rattle.tables.proofs.Sound.{Sound, tables-sound}
+use Rattle.rules.specs.Answers.{first}
+use Rattle.rules.specs.Calls.{noThread}
+use Rattle.rules.specs.Events.{refusals, interruptEffect, effect}
+use Rattle.rules.proofs.Passed.{thread-process, thread-index}
+use Rattle.kernel.specs.Follows.{world, answered}
+use Rattle.kernel.proofs.Events.{interrupt-ends}
+use Rattle.layout.specs.Layout.{stateAt, wordsAt}
+use Rattle.layout.specs.Check.{Held}
+use Rattle.changes.specs.Change.{Took}
+use Rattle.vradomil.specs.Host.{seen}
+use Rattle.vradomil.proofs.Steps.{stands, took-done, interrupt-answers, event-refused, event-passed, ticks-refused, ticks-done}
+use Rattle.vradomil.proofs.Effects.{ended-few, answered-leaves}
+use borrow.Author.Needs.{needs}
+use Rattle.vradomil.proofs.event.vradomil_interrupt.Statement.{statement}
+use Rattle.vradomil.proofs.event.vradomil_interrupt.Tie as tie
+
+abbrev start : tie.After-lent → tie.Start
+start c = c .before .before .before .before
+
+abbrev event : tie.Start → Event
+event g = Interrupt (g .args .process) (g .args .index)
+
+-- what the first two rows have shown
+held : (c : tie.After-enum-told) → Held (now (start (c .before .before) .args .tables))
+held c = c .before .before .lent .ensures .held (c .enum-told .given .1)
+
+sound : (c : tie.After-enum-told) → Sound (stateAt (now (start (c .before .before) .args .tables)))
+sound c = tables-sound (stateAt (now (start (c .before .before) .args .tables))) (held c .sound)
+
+abbrev one : ℕ → List Bool
+one x = set (replicate threads false) x true
+
+own : (c : tie.After-enum-told)
+    → let g = start (c .before .before) in
+    first (refusals (event g) (seen (now (g .args .tables)) (now (g .args .words)))) ≡ cond (noThread (g .args .process) (g .args .index)) (Refuse ESRCH) Pass
+own c =
+    let l = c .before .before in
+    let g = start l in
+    event-passed (event g) (now (g .args .tables)) (now (g .args .words)) (l .lent .result) (l .lent .ensures) refl (c .enum-told .given .1)
+
+took : (c : tie.After-end-first)
+    → let p = c .before .before .before .before .before in
+    let b = now (start (p .before .before) .args .tables) in
+    Took (endFirst Interrupted (flagged (one (c .before .before .thread-index .result))) 1 (stateAt b)) (c .end-first .result) (c .end-first .last .0)
+took c =
+    let p = c .before .before .before .before .before in
+    let b = now (start (p .before .before) .args .tables) in
+    c .end-first .ensures (stateAt b) (stands b (held p))
+
+few : (c : tie.After-end-first) → c .end-first .result ≤ threads
+few c =
+    let p = c .before .before .before .before .before in
+    ended-few Interrupted (flagged (one (c .before .before .thread-index .result))) 1 (stateAt (now (start (p .before .before) .args .tables))) (c .end-first .result) (c .end-first .last .0) (sound p) (took c)
+
+lent-requires : tie.Need-lent-requires
+lent-requires c κs = search needs
+
+enum-known-v : tie.Need-enum-known-v
+enum-known-v c = search needs
+
+refusal-requires : tie.Need-refusal-requires
+refusal-requires c κs = search needs
+
+enum-told : tie.Need-enum-told
+enum-told c = search needs
+
+no-thread-requires : tie.Need-no-thread-requires
+no-thread-requires c κs = search needs
+
+refusal-requires-2 : tie.Need-refusal-requires-2
+refusal-requires-2 c κs = search needs
+
+same-length : tie.Need-same-length
+same-length c = search needs
+
+returns : tie.Need-returns
+returns c =
+    let n = c .before .before in
+    let p = n .before in
+    let g = start (p .before .before) in
+    ticks-refused (event g) (now (g .args .tables)) (now (g .args .words)) _ ESRCH (own p ∙ rw (sym (n .no-thread .ensures) ∙ c .before .if1 .taken))
+    (ap (λ z. z ∷ []) (toZ-ofZ (c .refusal2 .ensures .1)) ∙ c .refusal2 .ensures .0)
+
+thread-index-requires : tie.Need-thread-index-requires
+thread-index-requires c κs = search needs
+
+array-write-flags : tie.Need-array-write-flags
+array-write-flags c = search needs
+
+end-first-requires : tie.Need-end-first-requires
+end-first-requires c κs =
+    let p = c .before .before .before .before in
+    let b = now (start (p .before .before) .args .tables) in
+    record { state = stateAt b; stands = stands b (held p) }
+
+cast-result : tie.Need-cast-result
+cast-result c = record { sfits = omega (arith, few (c .before .before)) }
+
+same-length-2 : tie.Need-same-length-2
+same-length-2 c = search needs
+
+returns-2 : tie.Need-returns-2
+returns-2 c =
+    let l = c .before .before .before .before in
+    let g = start l in
+    ticks-refused (event g) (now (g .args .tables)) (now (g .args .words)) _ _ (event-refused (event g) (now (g .args .tables)) (now (g .args .words)) (l .lent .result) (l .lent .ensures) refl _ (c .before .before .v .given .1))
+    (ap (λ z. z ∷ []) (toZ-ofZ (c .refusal .ensures .1)) ∙ c .refusal .ensures .0)
+
+same-length-3 : tie.Need-same-length-3
+same-length-3 c = search needs
+
+returns-3 : tie.Need-returns-3
+unfolding effect
+returns-3 c =
+    let e = c .before .before in
+    let t = e .before .before in
+    let o = t .before in
+    let n = o .before in
+    let p = n .before in
+    let g = start (p .before .before) in
+    let b = now (g .args .tables) in
+    let m = now (g .args .words) in
+    let s = stateAt b in
+    let x = t .thread-index .result in
+    let exists : noThread (g .args .process) (g .args .index) ≡ false = sym (n .no-thread .ensures) ∙ o .if1 .left in
+    let at = t .thread-index .ensures .exact (thread-process (g .args .process) (g .args .index) exists) (thread-index (g .args .process) (g .args .index) exists) in
+    let taken = endFirst Interrupted (flagged (one x)) 1 s in
+    ticks-done (event g) b m _ (e .end-first .result) _ (held p) (own p ∙ rw exists) (interrupt-answers (threadNumber (g .args .process) (g .args .index)) (seen b m))
+    (toZ-pos w32 {n = e .end-first .result} (omega (arith, few e)))
+    (answered-leaves (interruptEffect (threadNumber (g .args .process) (g .args .index)) (world s (wordsAt m))) _ (e .end-first .result) _
+    (interrupt-ends x s (wordsAt m) (sound p) (t .thread-index .ensures .inside) taken refl ∙ ap (λ q. answered (interruptEffect q (world s (wordsAt m)))) at)
+    (took-done taken (e .end-first .result) _ (took e) (omega (arith, few e))))
+
+pub vradomil-interrupt-spec : {M : Type 1} → statement M
+vradomil-interrupt-spec =
+    tie.close
+    (tie.spec
+    lent-requires
+    enum-known-v
+    refusal-requires
+    enum-told
+    no-thread-requires
+    refusal-requires-2
+    same-length
+    returns
+    thread-index-requires
+    array-write-flags
+    end-first-requires
+    cast-result
+    same-length-2
+    returns-2
+    same-length-3
+    returns-3)

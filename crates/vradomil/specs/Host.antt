@@ -1,0 +1,100 @@
+-- What a C host gets: the rules' answers as numbers, and every byte of tables and words afterwards.
+use mathlib.Core.Path.{_≡_}
+use mathlib.Core.Bool.{Bool, true, false, cond}
+use mathlib.Core.List.{List, [], _∷_}
+use Prim.Native.Nat.{ℕ, _+_, _*_, _≤_}
+use lib.IntN.{ℤ, pos}
+use lib.ListN.{length}
+use lib.Dec.{eqb}
+use Rattle.tables.specs.declared.State.{State}
+use Rattle.rules.specs.declared.event.Call.{Call}
+use Rattle.rules.specs.declared.event.Event.{Event}
+use Rattle.rules.specs.declared.event.Event.the-variants.{Call as CallEvent}
+use Rattle.rules.specs.declared.answer.Answer.{Answer}
+use Rattle.rules.specs.declared.answer.Answer.the-variants.{Asleep, Count, Refused, Waiting}
+use Rattle.rules.specs.declared.answer.Verdict.{Verdict}
+use Rattle.rules.specs.declared.answer.Verdict.the-variants.{Pass}
+use Rattle.rules.specs.declared.answer.Errno.the-variants.{ENXIO, EBADF}
+use Rattle.rules.specs.declared.answer.Panel.{Panel}
+use Rattle.tables.specs.Sizes.{maxCap}
+use Rattle.tables.specs.Tables.{World, world, fresh}
+use Rattle.rules.specs.Answers.{_when_, first, Outcome, answerNumbers}
+use Rattle.rules.specs.Calls.{wrongMemory, brokenTables}
+use Rattle.rules.specs.Events.{step, refusals}
+use Rattle.effects.specs.Ready.{Ready}
+use Rattle.layout.specs.Layout.{tablesAt, tablesBytes, tablesSize, stateAt, wordsAt, wordsBytes, memorySize}
+use Rattle.layout.specs.Check.{Held}
+
+-- the tables and the words that the bytes stand for
+abbrev pub seen : List ℕ → List ℕ → World
+seen tables words = world (tablesAt tables) (wordsAt words)
+
+abbrev pub isRefused : Answer → Bool
+isRefused Asleep = false
+isRefused (Count n) = false
+isRefused (Refused x) = true
+isRefused (Waiting v) = false
+
+-- a refusal leaves every byte; else they are the bytes of the tables and of the words that the rules leave
+abbrev pub tablesLeft : Outcome → List ℕ → List ℕ
+tablesLeft o tables = cond (isRefused (o .answer)) tables (tablesBytes (o .world .state))
+
+abbrev pub wordsLeft : Outcome → List ℕ → List ℕ
+wordsLeft o words = cond (isRefused (o .answer)) words (wordsBytes (o .world .words))
+
+-- The number is the answer's, as document 01 has it.
+abbrev pub Numbered : Answer → ℤ → Type 0
+Numbered a r = r ∷ [] ≡ answerNumbers a
+
+-- An event that may change the tables, with words that are only read.
+pub record Ticks (e : Event) (tables words : List ℕ) (r : ℤ) (after : List ℕ) : Type 0 where
+  pub number : Numbered (step e (seen tables words) .answer) r
+  pub bytes : after ≡ tablesLeft (step e (seen tables words)) tables
+
+-- An event that may change a word, with tables that are only read.
+pub record Stores (e : Event) (tables words : List ℕ) (r : ℤ) (after : List ℕ) : Type 0 where
+  pub number : Numbered (step e (seen tables words) .answer) r
+  pub bytes : after ≡ wordsLeft (step e (seen tables words)) words
+
+-- A call, which may change both.
+pub record Calls (c : Call) (b m : List ℕ) (r : ℤ) (bAfter mAfter : List ℕ) : Type 0 where
+  pub number : Numbered (step (CallEvent c) (seen b m) .answer) r
+  pub tables : bAfter ≡ tablesLeft (step (CallEvent c) (seen b m)) b
+  pub words : mAfter ≡ wordsLeft (step (CallEvent c) (seen b m)) m
+
+-- the three numbers of a panel query in one
+abbrev pub packed : Panel → ℕ
+packed v = v .waiting + 256 * v .count + 65536 * v .lowest
+
+-- fresh tables are laid down; of another length than the tables' they are refused as the tables would be
+pub record Laid (b : List ℕ) (r : ℤ) (after : List ℕ) : Type 0 where
+  pub number : Numbered (cond (eqb (length b) tablesSize) (Count 0) (Refused EBADF)) r
+  pub bytes : after ≡ cond (eqb (length b) tablesSize) (tablesBytes fresh) b
+
+-- What the functions inside tell each other.
+
+-- the first two rows of every event but the panel query, and what it means to pass them
+pub record Lent (tables words : List ℕ) (v : Verdict) : Type 0 where
+  pub verdict : v ≡ first (ENXIO when wrongMemory (seen tables words) ∷ EBADF when brokenTables (seen tables words) ∷ [])
+  pub held : v ≡ Pass → Held tables
+  pub long : v ≡ Pass → length words ≡ memorySize
+
+-- the whole table of answers, for a call
+pub record Judged (c : Call) (tables words : List ℕ) (v : Verdict) : Type 0 where
+  pub verdict : v ≡ first (refusals (CallEvent c) (seen tables words))
+  pub held : v ≡ Pass → Held tables
+  pub long : v ≡ Pass → length words ≡ memorySize
+
+-- a call on tables that keep the rules, which no row refuses
+pub record Passed (c : Call) (tables : List ℕ) : Type 0 where
+  pub held : Held tables
+  pub ready : Ready c (stateAt tables)
+
+-- an answer and the tables that go with it, as a number and bytes
+pub record Done (a : Answer) (s : State) (n : ℕ) (after : List ℕ) : Type 0 where
+  pub number : Numbered a (pos n)
+  pub small : n ≤ maxCap
+  pub bytes : after ≡ tablesBytes s
+
+abbrev pub Leaves : Outcome → ℕ → List ℕ → Type 0
+Leaves o n after = Done (o .answer) (o .world .state) n after

@@ -1,0 +1,173 @@
+// Other events: stores, clock events, interrupts and panel queries; and fresh tables.
+ghost use mathlib.Core.Path.{_≡_};
+ghost use mathlib.Core.Bool.{cond, _&&_};
+ghost use Prim.Native.Nat.{_<_};
+ghost use lib.ListN.{length};
+ghost use lib.Dec.{leb, ltb};
+ghost use Rattle.tables.specs.Sizes.{processes, noEntry};
+ghost use Rattle.rules.specs.declared.event.Event.the-variants.{Store, Clock, Interrupt};
+ghost use Rattle.rules.specs.Events.{waitingSet, panel};
+ghost use Rattle.layout.specs.Layout.{tablesAt, stateAt, tablesSize, listAt, waitingAt};
+ghost use Rattle.vradomil.specs.Host.{Stores, Ticks, Laid, packed};
+use crate::answer::refusal;
+use crate::lent::WORD_SIZE;
+use crate::lent::lent;
+use changes::end_first;
+use kernel::event::bit_at;
+use layout::CLOCK_AT;
+use layout::LIST_AT;
+use layout::TABLES_SIZE;
+use layout::WAITING_AT;
+use layout::check::sound;
+use layout::read::expired;
+use numbers::put_u32;
+use numbers::put_u64;
+use numbers::u64_at;
+use rules::answer::Errno;
+use rules::answer::Verdict;
+use tables::LastAnswer;
+use tables::NO_ENTRY;
+use tables::PROCESS_BYTES;
+use tables::PROCESSES;
+use tables::THREADS;
+use tables::THREADS_PER_PROCESS;
+use tables::WORD_BYTES;
+use verdicts::command::thread_index;
+use verdicts::command::word_index;
+use verdicts::verdict::no_thread;
+use verdicts::verdict::row;
+
+// A store: one word is written, and nobody wakes.
+#[no_mangle]
+pub extern "C" fn vradomil_store(
+    tables: &[u8],
+    words: &mut [u8],
+    process: u8,
+    address: u32,
+    value: u32,
+) -> i32
+    ensures { λ r. ⌜ Stores (Store process address value) (now (tables .entry)) (now (words .entry)) r (now (words .exit)) ⌝ }
+{
+    let v = lent(tables, words);
+    match v {
+        Verdict::Refuse(x) => refusal(x),
+        Verdict::Pass => {
+            let v = row(Errno::EFAULT, PROCESS_BYTES <= address, Verdict::Pass);
+            let v = row(Errno::EINVAL, address % WORD_BYTES != 0, v);
+            let v = row(Errno::ESRCH, PROCESSES <= process as usize, v);
+            match v {
+                Verdict::Refuse(x) => refusal(x),
+                Verdict::Pass => {
+                    let i = word_index(process, address);
+                    put_u32(words, WORD_SIZE * i, value);
+                    0
+                }
+            }
+        }
+    }
+}
+
+// A clock event: the clock is set, and the sleepers whose deadline has come end.
+#[no_mangle]
+pub extern "C" fn vradomil_clock(tables: &mut [u8], words: &[u8], time: u64) -> i32
+    ensures { λ r. ⌜ Ticks (Clock time) (now (tables .entry)) (now (words .entry)) r (now (tables .exit)) ⌝ }
+{
+    let v = lent(tables, words);
+    match v {
+        Verdict::Refuse(x) => refusal(x),
+        Verdict::Pass => {
+            let clock = u64_at(tables, CLOCK_AT);
+            if time < clock {
+                return refusal(Errno::EINVAL);
+            }
+            let flags = expired(tables, time);
+            let n = end_first(tables, flags, THREADS, LastAnswer::TimedOut);
+            put_u64(tables, CLOCK_AT, time);
+            n as i32
+        }
+    }
+}
+
+// An interrupt of a thread: a sleeper ends.
+#[no_mangle]
+pub extern "C" fn vradomil_interrupt(tables: &mut [u8], words: &[u8], process: u8, index: u8) -> i32
+    ensures { λ r. ⌜ Ticks (Interrupt process index) (now (tables .entry)) (now (words .entry)) r (now (tables .exit)) ⌝ }
+{
+    let v = lent(tables, words);
+    match v {
+        Verdict::Refuse(x) => refusal(x),
+        Verdict::Pass => {
+            if no_thread(process, index) {
+                return refusal(Errno::ESRCH);
+            }
+            let t = thread_index(process, index);
+            let mut flags = [false; THREADS];
+            flags[t] = true;
+            let n = end_first(tables, flags, 1, LastAnswer::Interrupted);
+            n as i32
+        }
+    }
+}
+
+// The waiting threads of a process, a bit for each. It is called by vradomil_query, for a process that exists.
+fn waiting_set(tables: &[u8], process: usize) -> u8
+    requires { ⌜ (length (now tables) ≡ tablesSize) × (process < processes) ⌝ }
+    ensures { λ r. ⌜ r ≡ waitingSet process (stateAt (now (tables .entry))) ⌝ }
+{
+    let mut bits: u32 = 0;
+    let mut one: u32 = 1;
+    let base = WAITING_AT + THREADS_PER_PROCESS * process;
+    let mut i: usize = 0;
+    while i < THREADS_PER_PROCESS {
+        let waiting = tables[base + i];
+        let b = bit_at(waiting == 1, one);
+        bits += b;
+        one = one * 2;
+        i += 1;
+    }
+    bits as u8
+}
+
+// A panel query: waiting + 256 * count + 65536 * lowest.
+#[no_mangle]
+pub extern "C" fn vradomil_query(tables: &[u8], process: u8) -> u32
+    ensures { λ r. ⌜ r ≡ packed (panel process (tablesAt (now (tables .entry)))) ⌝ }
+{
+    let exists = (process as usize) < PROCESSES;
+    let ok = sound(tables);
+    let bits = if ok & exists {
+        waiting_set(tables, process as usize)
+    } else {
+        0
+    };
+    let n = u8::count_ones(bits);
+    let lowest = u8::trailing_zeros(bits);
+    bits as u32 + 256 * n + 65536 * lowest
+}
+
+// A byte of the fresh tables.
+fn fresh_byte(i: usize) -> u8
+    ensures { λ r. ⌜ r ≡ cond (leb listAt i && ltb i waitingAt) noEntry 0 ⌝ }
+{
+    if (LIST_AT <= i) & (i < WAITING_AT) {
+        NO_ENTRY
+    } else {
+        0
+    }
+}
+
+// Lays down the fresh tables.
+#[no_mangle]
+pub extern "C" fn vradomil_fresh(tables: &mut [u8]) -> i32
+    ensures { λ r. ⌜ Laid (now (tables .entry)) r (now (tables .exit)) ⌝ }
+{
+    if tables.len() != TABLES_SIZE {
+        return refusal(Errno::EBADF);
+    }
+    let mut i: usize = 0;
+    while i < TABLES_SIZE {
+        tables[i] = fresh_byte(i);
+        i += 1;
+    }
+    0
+}

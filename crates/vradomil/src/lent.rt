@@ -1,0 +1,38 @@
+// What a host lends: tables and words, tested before anything else.
+ghost use mathlib.Core.Path.{_≡_};
+ghost use Prim.Native.Nat.{_<_};
+ghost use lib.ListN.{length, getD};
+ghost use Rattle.tables.specs.Sizes.{memoryWords};
+ghost use Rattle.layout.specs.Layout.{wordsAt, memorySize};
+ghost use Rattle.vradomil.specs.Host.{Lent};
+use layout::check::sound;
+use numbers::u32_at;
+use rules::answer::Errno;
+use rules::answer::Verdict;
+use tables::WORDS;
+
+pub const WORD_SIZE: usize = 4;
+
+const WORDS_SIZE: usize = WORD_SIZE * WORDS;
+
+// The first two rows of the table of answers.
+pub fn lent(tables: &[u8], words: &[u8]) -> Verdict
+    ensures { λ r. ⌜ Lent (now (tables .entry)) (now (words .entry)) r ⌝ }
+{
+    if words.len() != WORDS_SIZE {
+        return Verdict::Refuse(Errno::ENXIO);
+    }
+    let ok = sound(tables);
+    if !ok {
+        return Verdict::Refuse(Errno::EBADF);
+    }
+    Verdict::Pass
+}
+
+// A word. It is called on words of the right length.
+pub fn word_at(words: &[u8], i: usize) -> u32
+    requires { ⌜ (length (now words) ≡ memorySize) × (i < memoryWords) ⌝ }
+    ensures { λ r. ⌜ r ≡ getD (wordsAt (now (words .entry))) i 0 ⌝ }
+{
+    u32_at(words, WORD_SIZE * i)
+}
