@@ -1,5 +1,5 @@
 -- What a host lends: words of the right length and tables that keep the rules pass the first two rows.
-use mathlib.Core.Path.{_≡_, sym, ap}
+use mathlib.Core.Path.{_≡_, ap}
 use mathlib.Core.Bool.{true, false, not}
 use mathlib.Core.List.{List}
 use Prim.Native.Nat.{ℕ, _*_, _<_}
@@ -7,9 +7,8 @@ use lib.ListN.{length}
 use lib.Dec.{eqb}
 use native.Mathlib.Omega.{arith}
 use borrow.Author.Tests.{eq-eqb, ne-eqb}
-use Rattle.lists.proofs.Tests.{never}
+use Rattle.rules.proofs.Rows.{not-pass}
 use Rattle.rules.specs.declared.answer.Verdict.the-variants.{Refuse, Pass}
-use Rattle.rules.specs.declared.answer.Errno.{Errno}
 use Rattle.rules.specs.declared.answer.Errno.the-variants.{ENXIO, EBADF}
 use Rattle.rules.specs.Calls.{wrongMemory}
 use Rattle.tables.specs.Sizes.{wordBytes, memoryWords}
@@ -18,7 +17,6 @@ use Rattle.layout.specs.Layout.{tablesAt, wordsOf, wordsAt, memorySize}
 use Rattle.layout.specs.Check.{Held}
 use Rattle.vradomil.specs.Host.{seen, Lent}
 use Rattle.vradomil.proofs.Memory.{words-length}
-use Rattle.vradomil.proofs.Steps.{passes}
 
 no-words : (n : ℕ) (m : List ℕ) → 0 < n → (length m ≡ wordBytes * n → ⊥) → eqb (length (wordsOf n m)) n ≡ false
 unfolding wordsOf
@@ -30,15 +28,12 @@ wrong-words b m h = ap not (no-words memoryWords m (omega arith) h)
 pub right-words : (b m : List ℕ) → length m ≡ memorySize → wrongMemory (seen b m) ≡ false
 right-words b m h = ap not (eq-eqb (length (wordsAt m)) memoryWords (words-length memoryWords m h))
 
-pub refusal : (x : Errno) {P : Type 0} → Refuse x ≡ Pass → P
-refusal x h = never (sym (ap passes h))
-
 module _ (b m : List ℕ) where
   pub refused-memory : (length m ≡ memorySize → ⊥) → Lent b m (Refuse ENXIO)
-  refused-memory h = record { verdict = rw (wrong-words b m h); held = refusal ENXIO; long = refusal ENXIO }
+  refused-memory h = record { verdict = rw (wrong-words b m h); held = not-pass; long = not-pass }
 
   pub refused-tables : length m ≡ memorySize → tablesOk (tablesAt b) ≡ false → Lent b m (Refuse EBADF)
-  refused-tables size bad = record { verdict = rw (right-words b m size, bad); held = refusal EBADF; long = refusal EBADF }
+  refused-tables size bad = record { verdict = rw (right-words b m size, bad); held = not-pass; long = not-pass }
 
   pub let-through : length m ≡ memorySize → tablesOk (tablesAt b) ≡ true → Held b → Lent b m Pass
   let-through size good held = record { verdict = rw (right-words b m size, good); held = λ e. held; long = λ e. size }

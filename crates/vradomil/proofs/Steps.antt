@@ -5,7 +5,7 @@ use mathlib.Core.List.{List, [], _∷_}
 use Prim.Native.Nat.{ℕ, _≤_}
 use lib.IntN.{ℤ, pos}
 use lib.Dec.{ltb}
-use Rattle.lists.proofs.Tests.{cases, clash, never}
+use Rattle.lists.proofs.Tests.{cases, clash}
 use Rattle.tables.specs.declared.State.{State}
 use Rattle.tables.specs.declared.Taken.{Taken}
 use Rattle.tables.specs.Sizes.{maxCap}
@@ -24,7 +24,7 @@ use Rattle.rules.specs.Answers.{Row, _when_, first, Outcome, answerNumbers}
 use Rattle.rules.specs.Commands.{commandOf, isUnknown}
 use Rattle.rules.specs.Calls.{wrongMemory, brokenTables, noProcess, noThread, caller, callRows, callRefusals, wait, wake, requeue, wakeOp, callEffect}
 use Rattle.rules.specs.Events.{refusals, interruptEffect, effect, step}
-use Rattle.rules.proofs.Rows.{step-refused, step-passed}
+use Rattle.rules.proofs.Rows.{not-pass, step-refused, step-passed}
 use Rattle.tables.specs.Tables.{World, world, threadOf, wordAt, aligned, outside}
 use Rattle.layout.specs.Layout.{tablesBytes, stateAt, wordsAt, wordsBytes}
 use Rattle.layout.specs.Check.{Held}
@@ -47,10 +47,6 @@ leaves-by o p n after is h = subst (λ (x : Outcome). Leaves x n after) is h
 
 -- The first two rows, before those of the event.
 
-abbrev pub passes : Verdict → ℕ
-passes Pass = 0
-passes (Refuse x) = 1
-
 module _ (p q : Bool) (x y : Errno) (rest : List Row) where
   pub two-refused : (z : Errno) → first (x when p ∷ y when q ∷ []) ≡ Refuse z → first (x when p ∷ y when q ∷ rest) ≡ Refuse z
   two-refused z h = by p q h
@@ -58,14 +54,14 @@ module _ (p q : Bool) (x y : Errno) (rest : List Row) where
       by : (p q : Bool) → first (x when p ∷ y when q ∷ []) ≡ Refuse z → first (x when p ∷ y when q ∷ rest) ≡ Refuse z
       by true q h = h
       by false true h = h
-      by false false h = never (ap passes h)
+      by false false h = not-pass (sym h)
 
   pub two-passed : first (x when p ∷ y when q ∷ []) ≡ Pass → first (x when p ∷ y when q ∷ rest) ≡ first rest
   two-passed h = by p q h
     where
       by : (p q : Bool) → first (x when p ∷ y when q ∷ []) ≡ Pass → first (x when p ∷ y when q ∷ rest) ≡ first rest
-      by true q h = never (sym (ap passes h))
-      by false true h = never (sym (ap passes h))
+      by true q h = not-pass h
+      by false true h = not-pass h
       by false false h = refl
 
 module _ (b m : List ℕ) (v : Verdict) (l : Lent b m v) (rest : List Row) where

@@ -11,7 +11,7 @@ use Rattle.refusals.proofs.Read.{verdict-is}
 use Rattle.layout.specs.Layout.{tablesAt, wordsAt, memorySize}
 use Rattle.layout.specs.Check.{Held}
 use Rattle.layout.proofs.Reading.{thread-read, clock-read, count-read}
-use Rattle.vradomil.proofs.Lending.{refusal}
+use Rattle.rules.proofs.Rows.{not-pass}
 use Rattle.vradomil.proofs.Steps.{event-refused, lent-passed}
 use borrow.Author.Needs.{needs}
 use Rattle.vradomil.proofs.call.judge.Statement.{statement}
@@ -62,8 +62,8 @@ returns c =
     let m = now (g .args .words) in
     record {
       verdict = sym (event-refused (CallEvent (g .args .c)) b m (l .lent .result) (l .lent .ensures) refl _ (c .before .v .given .1));
-      held = refusal _;
-      long = refusal _;
+      held = not-pass;
+      long = not-pass;
     }
 
 returns-2 : tie.Need-returns-2

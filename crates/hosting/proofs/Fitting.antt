@@ -1,0 +1,148 @@
+-- Every event keeps numbers within their fields.
+use mathlib.Core.Path.{_≡_, refl, sym, subst}
+use mathlib.Core.Bool.{Bool, true, false, cond}
+use mathlib.Core.List.{List}
+use Prim.Native.Nat.{ℕ, _-_, _%_, _^_, _≤_, _<_}
+use native.Mathlib.Omega.{arith}
+use lib.ListN.{length, set}
+use lib.Seq.{getD-set-same, getD-set-other, set-out}
+use lib.Bits.{and-le-l, or-lt, xor-lt}
+use lib.Dec.{eqb, leb, ltb}
+use lib.Pow.{pow-mono}
+use borrow.Author.Tests.{eqb-true, eqb-false, ltb-true, ltb-false}
+use Rattle.lists.proofs.Tests.{cases}
+use Rattle.tables.specs.declared.Thread.{Thread}
+use Rattle.tables.specs.declared.LastAnswer.{LastAnswer}
+use Rattle.rules.specs.declared.event.Command.{Command}
+use Rattle.rules.specs.declared.event.Command.the-variants.{Wait, Wake, Requeue, CmpRequeue, WakeOp, WaitBitset, WakeBitset, Unknown}
+use Rattle.rules.specs.declared.event.Call.{Call}
+use Rattle.rules.specs.declared.event.Event.{Event}
+use Rattle.rules.specs.declared.event.Event.the-variants.{Call as CallEvent, Store, Clock, Interrupt, Query}
+use Rattle.tables.specs.Sizes.{threads, matchAny, wordBytes}
+use Rattle.tables.specs.Tables.{World, threadNumber, running, threadOf, asleepAt, endSleeps, moveSleeps, fallAsleep, writeWord, wordAt}
+use Rattle.rules.specs.Answers.{Outcome}
+use Rattle.rules.specs.Commands.{commandOf, uses}
+use Rattle.rules.specs.WakeOp.{opField, opArg, opCode, operand, newWord}
+use Rattle.rules.specs.Calls.{maskOf, timeoutGiven, deadlineOf, wait, wake, requeue, wakeOp, callEffect}
+use Rattle.rules.specs.Events.{refusals, clockEffect, interruptEffect, effect, step}
+use Rattle.rules.specs.Claims.{Fate, stays, sleeps, wakes, moves, timesOut, isInterrupted}
+use Rattle.rules.proofs.Rows.{verdicts, clear-pass, step-refused, step-passed}
+use Rattle.rules.proofs.Theorems.{fate}
+use Rattle.changes.specs.Change.{FitsThread, Fits}
+use Rattle.hosting.specs.Hosts.{CallFits, EventFits, WordsFit}
+
+pub record FitsWorld (w : World) : Type 0 where
+  pub state : Fits (w .state)
+  pub words : WordsFit (w .words)
+
+-- a record
+running-fits : (a : LastAnswer) → FitsThread (running a)
+running-fits a = record { uaddr = omega arith; bitset = omega arith; deadline = omega arith }
+
+choose : (b : Bool) (x y n : ℕ) → x < n → y < n → cond b x y < n
+choose true x y n h k = h
+choose false x y n h k = k
+
+asleep-fits : (c : Call) (w : World) (r : Thread) → CallFits c
+    → FitsThread (asleepAt (c .uaddr) (maskOf (commandOf (c .op)) c) (timeoutGiven c) (deadlineOf (commandOf (c .op)) c (w .state .clock)) r)
+asleep-fits c w r f =
+    let k = commandOf (c .op) in
+    record {
+      uaddr = f .uaddr;
+      bitset = choose (uses k .mask) (c .val3) matchAny (256 ^ 4) (f .val3) (omega arith);
+      deadline = choose (timeoutGiven c) _ 0 (256 ^ 8) (choose (uses k .mask) (c .timeout) _ (256 ^ 8) (f .timeout) (omega arith)) (omega arith);
+    }
+
+thread-fits : (e : Event) (w : World) (t : ℕ) → EventFits e → t < threads → Fits (w .state) → FitsThread (threadOf (step e w .world .state) t)
+thread-fits e w t f low g = by (fate e w t)
+  where
+    old : FitsThread (threadOf (w .state) t)
+    old = g .records t low
+
+    at : (r : Thread) → threadOf (step e w .world .state) t ≡ r → FitsThread r → FitsThread (threadOf (step e w .world .state) t)
+    at r is h = subst FitsThread (sym is) h
+
+    by : Fate e w t → FitsThread (threadOf (step e w .world .state) t)
+    by (stays is) = at (threadOf (w .state) t) is old
+    by (sleeps c same who s is) = at _ is (asleep-fits c w (threadOf (w .state) t) (subst EventFits same f))
+    by (wakes c same there is) = at _ is (running-fits _)
+    by (moves c same there is) = at _ is (record { uaddr = subst EventFits same f .uaddr2; bitset = old .bitset; deadline = old .deadline })
+    by (timesOut now same there is) = at _ is (running-fits _)
+    by (isInterrupted p i same who there is) = at _ is (running-fits _)
+
+-- a word
+operand-low : (v : ℕ) → operand v < 2 ^ 32
+unfolding operand
+operand-low v = choose (leb 8 (opField v)) (2 ^ (opArg v % 32)) (opArg v) (2 ^ 32) (power (opArg v % 32) (omega arith)) (omega arith)
+  where
+    power : (k : ℕ) → k ≤ 31 → 2 ^ k < 2 ^ 32
+    power k h = let p : 2 ^ k ≤ 2 ^ 31 = pow-mono h in omega arith
+
+word-low : (v old : ℕ) → old < 2 ^ 32 → newWord v old < 2 ^ 32
+unfolding newWord
+word-low v old h =
+    let x = operand-low v in
+    choose (eqb (opCode v) 0) _ _ (2 ^ 32) x
+    (choose (eqb (opCode v) 1) _ _ (2 ^ 32) (omega arith)
+    (choose (eqb (opCode v) 2) _ _ (2 ^ 32) (or-lt 32 old (operand v) h x)
+    (choose (eqb (opCode v) 3) _ _ (2 ^ 32) (let u = and-le-l old (matchAny - operand v) in omega arith) (xor-lt 32 old (operand v) h x))))
+
+set-fits : (ws : List ℕ) (i v : ℕ) → WordsFit ws → v < 256 ^ wordBytes → WordsFit (set ws i v)
+set-fits ws i v f h j = cases (eqb j i)
+    (λ e. cases (ltb i (length ws))
+    (λ l. rw (eqb-true j i e, getD-set-same ws i v 0 (ltb-true i (length ws) l)) h)
+    (λ l. rw (set-out ws i v (ltb-false i (length ws) l)) (f j)))
+    (λ e. rw (getD-set-other ws i j v 0 (eqb-false j i e)) (f j))
+
+-- the clock and the words that an event leaves
+call-clock : (k : Command) (c : Call) (w : World) → callEffect k c w .world .state .clock ≡ w .state .clock
+unfolding callEffect wait wake requeue wakeOp fallAsleep endSleeps moveSleeps writeWord
+call-clock Wait c w = refl
+call-clock WaitBitset c w = refl
+call-clock Wake c w = refl
+call-clock WakeBitset c w = refl
+call-clock Requeue c w = refl
+call-clock CmpRequeue c w = refl
+call-clock WakeOp c w = refl
+call-clock Unknown c w = refl
+
+call-words : (k : Command) (c : Call) (w : World) → WordsFit (w .words) → WordsFit (callEffect k c w .world .words)
+unfolding callEffect wait wake requeue wakeOp writeWord
+call-words Wait c w f = f
+call-words WaitBitset c w f = f
+call-words Wake c w f = f
+call-words WakeBitset c w f = f
+call-words Requeue c w f = f
+call-words CmpRequeue c w f = f
+call-words WakeOp c w f = set-fits (w .words) _ _ f (word-low (c .val3) (wordAt w (c .process) (c .uaddr2)) (f _))
+call-words Unknown c w f = f
+
+effect-clock : (e : Event) (w : World) → EventFits e → w .state .clock < 256 ^ 8 → effect e w .world .state .clock < 256 ^ 8
+unfolding effect writeWord clockEffect interruptEffect endSleeps
+effect-clock (CallEvent c) w f h = rw (call-clock (commandOf (c .op)) c w) h
+effect-clock (Store p a v) w f h = h
+effect-clock (Clock now) w f h = f
+effect-clock (Interrupt p i) w f h = cases (threadOf (w .state) (threadNumber p i) .waiting) (λ e. rw e h) (λ e. rw e h)
+effect-clock (Query p) w f h = h
+
+effect-words : (e : Event) (w : World) → EventFits e → WordsFit (w .words) → WordsFit (effect e w .world .words)
+unfolding effect writeWord clockEffect interruptEffect
+effect-words (CallEvent c) w f h = call-words (commandOf (c .op)) c w h
+effect-words (Store p a v) w f h = set-fits (w .words) _ v h f
+effect-words (Clock now) w f h = h
+effect-words (Interrupt p i) w f h = cases (threadOf (w .state) (threadNumber p i) .waiting) (λ e. rw e h) (λ e. rw e h)
+effect-words (Query p) w f h = h
+
+pub step-fits : (e : Event) (w : World) → EventFits e → FitsWorld w → FitsWorld (step e w .world)
+step-fits e w f g =
+    record {
+      state = record {
+        clock = verdicts e w
+            (λ x h. subst (λ (o : Outcome). o .world .state .clock < 256 ^ 8) (sym (step-refused e w x h)) (g .state .clock))
+            (λ h. subst (λ (o : Outcome). o .world .state .clock < 256 ^ 8) (sym (step-passed e w (clear-pass (refusals e w) h))) (effect-clock e w f (g .state .clock)));
+        records = λ t low. thread-fits e w t f low (g .state);
+      };
+      words = verdicts e w
+          (λ x h. subst (λ (o : Outcome). WordsFit (o .world .words)) (sym (step-refused e w x h)) (g .words))
+          (λ h. subst (λ (o : Outcome). WordsFit (o .world .words)) (sym (step-passed e w (clear-pass (refusals e w) h))) (effect-words e w f (g .words)));
+    }

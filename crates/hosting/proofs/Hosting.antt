@@ -1,0 +1,168 @@
+-- Bytes that stand for a world: what each entry point leaves stands for what the rules leave.
+use mathlib.Core.Path.{_≡_, refl, sym, ap, subst, _∙_}
+use mathlib.Core.Bool.{true, false}
+use mathlib.Core.List.{List, [], _∷_, map}
+use Prim.Native.Nat.{ℕ}
+use native.Mathlib.Omega.{arith}
+use lib.IntN.{ℤ, pos}
+use lib.ListN.{length, getD}
+use Rattle.lists.proofs.Tests.{cases, clash}
+use Rattle.rules.specs.declared.event.Event.{Event}
+use Rattle.rules.specs.declared.event.Event.the-variants.{Call as CallEvent, Store, Clock, Interrupt, Query}
+use Rattle.rules.specs.declared.answer.Answer.{Answer}
+use Rattle.rules.specs.declared.answer.Answer.the-variants.{Asleep, Count, Refused, Waiting}
+use Rattle.tables.specs.Tables.{World, writeWord}
+use Rattle.tables.proofs.Sound.{sound-tables}
+use Rattle.rules.specs.Answers.{Outcome, answerNumbers}
+use Rattle.rules.specs.Events.{refusals, clockEffect, panel, effect, step}
+use Rattle.rules.specs.History.{belongs, final, answersTo}
+use Rattle.rules.proofs.Rows.{verdicts, clear-pass, step-refused, step-passed}
+use Rattle.rules.proofs.Preserved.{Valid, step-valid}
+use Rattle.rules.proofs.Theorems.{refusal-leaves-all}
+use Rattle.kernel.proofs.Events.{interrupt-words}
+use Rattle.layout.specs.Layout.{tablesBytes, wordsBytes, wordsAt}
+use Rattle.changes.proofs.Faithful.{tables-back}
+use Rattle.vradomil.specs.Host.{seen, isRefused, tablesLeft, wordsLeft, packed}
+use Rattle.vradomil.proofs.Theorems.{words-stand}
+use Rattle.hosting.specs.Hosts.{Hosted, called, stored, clocked, interrupted, queried, EventFits, HostRuns, over, next, numbersOf, hostNumber}
+use Rattle.hosting.proofs.Fitting.{FitsWorld, step-fits}
+
+pub record Stand (b m : List ℕ) (w : World) : Type 0 where
+  pub tables : b ≡ tablesBytes (w .state)
+  pub words : m ≡ wordsBytes (w .words)
+  pub valid : Valid w
+  pub fits : FitsWorld w
+
+module _ (b m : List ℕ) (w : World) (s : Stand b m w) where
+  pub seen-is : seen b m ≡ w
+  seen-is =
+      let tables = tables-back (w .state) b (record { bytes = s .tables; sound = sound-tables (w .state) (s .valid .sound) }) (s .fits .state) in
+      let words = ap wordsAt (s .words) ∙ words-stand (w .words) (s .valid .memory) (λ i l. s .fits .words i) in
+      λ j. record { state = tables j; words = words j }
+
+  -- a refusal leaves the bytes, and they still stand for the world
+  refused-world : (e : Event) (a : Answer) → step e w .answer ≡ a → isRefused a ≡ true → step e w .world ≡ w
+  refused-world e (Refused x) is h = refusal-leaves-all e w x is
+  refused-world e Asleep is h = clash false h refl
+  refused-world e (Count n) is h = clash false h refl
+  refused-world e (Waiting v) is h = clash false h refl
+
+  left-tables : (e : Event) → tablesLeft (step e w) b ≡ tablesBytes (step e w .world .state)
+  left-tables e = cases (isRefused (step e w .answer))
+      (λ r. rw r (s .tables ∙ ap (λ (v : World). tablesBytes (v .state)) (sym (refused-world e (step e w .answer) refl r))))
+      (λ r. rw r)
+
+  left-words : (e : Event) → wordsLeft (step e w) m ≡ wordsBytes (step e w .world .words)
+  left-words e = cases (isRefused (step e w .answer))
+      (λ r. rw r (s .words ∙ ap (λ (v : World). wordsBytes (v .words)) (sym (refused-world e (step e w .answer) refl r))))
+      (λ r. rw r)
+
+-- what an event does not touch
+store-state : (p a v : ℕ) (w : World) → step (Store p a v) w .world .state ≡ w .state
+unfolding effect writeWord
+store-state p a v w = verdicts (Store p a v) w
+    (λ x h. ap (λ (o : Outcome). o .world .state) (step-refused (Store p a v) w x h))
+    (λ h. ap (λ (o : Outcome). o .world .state) (step-passed (Store p a v) w (clear-pass (refusals (Store p a v) w) h)))
+
+clock-words : (now : ℕ) (w : World) → step (Clock now) w .world .words ≡ w .words
+unfolding effect clockEffect
+clock-words now w = verdicts (Clock now) w
+    (λ x h. ap (λ (o : Outcome). o .world .words) (step-refused (Clock now) w x h))
+    (λ h. ap (λ (o : Outcome). o .world .words) (step-passed (Clock now) w (clear-pass (refusals (Clock now) w) h)))
+
+ended-words : (p i : ℕ) (w : World) → step (Interrupt p i) w .world .words ≡ w .words
+unfolding effect
+ended-words p i w = verdicts (Interrupt p i) w
+    (λ x h. ap (λ (o : Outcome). o .world .words) (step-refused (Interrupt p i) w x h))
+    (λ h. ap (λ (o : Outcome). o .world .words) (step-passed (Interrupt p i) w (clear-pass (refusals (Interrupt p i) w) h)) ∙ interrupt-words _ w)
+
+asked : (p : ℕ) (w : World) → step (Query p) w .world ≡ w
+unfolding step refusals effect
+asked p w = refl
+
+shown : (p : ℕ) (w : World) → step (Query p) w .answer ≡ Waiting (panel p (w .state))
+unfolding step refusals effect
+shown p w = refl
+
+-- the number of an answer
+one-number : (a : Answer) (r : ℤ) → r ∷ [] ≡ answerNumbers a → r ≡ hostNumber a
+one-number Asleep r h = ap (λ l. getD l 0 (pos 0)) h
+one-number (Count n) r h = ap (λ l. getD l 0 (pos 0)) h
+one-number (Refused x) r h = ap (λ l. getD l 0 (pos 0)) h
+one-number (Waiting v) r h = let e : _≡_ {A = ℕ} 1 3 = ap length h in absurd (omega (arith, e))
+
+record Stepped (e : Event) (w : World) (r : ℤ) (b m : List ℕ) : Type 0 where
+  stand : Stand b m (step e w .world)
+  number : r ≡ hostNumber (step e w .answer)
+
+stepped : (e : Event) (b m b1 m1 : List ℕ) (w : World) (r : ℤ) → Stand b m w → EventFits e → Hosted e b m r b1 m1 → Stepped e w r b1 m1
+stepped (CallEvent c) b m b1 m1 w r s f (called h) =
+    let e = CallEvent c in
+    let is = ap (step e) (seen-is b m w s) in
+    record {
+      stand = record {
+        tables = h .tables ∙ ap (λ (o : Outcome). tablesLeft o b) is ∙ left-tables b m w s e;
+        words = h .words ∙ ap (λ (o : Outcome). wordsLeft o m) is ∙ left-words b m w s e;
+        valid = step-valid e w (s .valid);
+        fits = step-fits e w f (s .fits);
+      };
+      number = one-number (step e w .answer) r (h .number ∙ ap (λ (o : Outcome). answerNumbers (o .answer)) is);
+    }
+stepped (Store p a v) b m b1 m1 w r s f (stored h) =
+    let e = Store p a v in
+    let is = ap (step e) (seen-is b m w s) in
+    record {
+      stand = record {
+        tables = s .tables ∙ ap tablesBytes (sym (store-state p a v w));
+        words = h .bytes ∙ ap (λ (o : Outcome). wordsLeft o m) is ∙ left-words b m w s e;
+        valid = step-valid e w (s .valid);
+        fits = step-fits e w f (s .fits);
+      };
+      number = one-number (step e w .answer) r (h .number ∙ ap (λ (o : Outcome). answerNumbers (o .answer)) is);
+    }
+stepped (Clock now) b m b1 m1 w r s f (clocked h) =
+    let e = Clock now in
+    let is = ap (step e) (seen-is b m w s) in
+    record {
+      stand = record {
+        tables = h .bytes ∙ ap (λ (o : Outcome). tablesLeft o b) is ∙ left-tables b m w s e;
+        words = s .words ∙ ap wordsBytes (sym (clock-words now w));
+        valid = step-valid e w (s .valid);
+        fits = step-fits e w f (s .fits);
+      };
+      number = one-number (step e w .answer) r (h .number ∙ ap (λ (o : Outcome). answerNumbers (o .answer)) is);
+    }
+stepped (Interrupt p i) b m b1 m1 w r s f (interrupted h) =
+    let e = Interrupt p i in
+    let is = ap (step e) (seen-is b m w s) in
+    record {
+      stand = record {
+        tables = h .bytes ∙ ap (λ (o : Outcome). tablesLeft o b) is ∙ left-tables b m w s e;
+        words = s .words ∙ ap wordsBytes (sym (ended-words p i w));
+        valid = step-valid e w (s .valid);
+        fits = step-fits e w f (s .fits);
+      };
+      number = one-number (step e w .answer) r (h .number ∙ ap (λ (o : Outcome). answerNumbers (o .answer)) is);
+    }
+stepped (Query p) b m b1 m1 w r s f (queried h) =
+    record {
+      stand = subst (Stand b m) (sym (asked p w)) s;
+      number = ap pos (h ∙ ap (λ (v : World). packed (panel p (v .state))) (seen-is b m w s)) ∙ ap hostNumber (sym (shown p w));
+    }
+
+-- over a whole history
+pub record Ran (p : ℕ) (h : List Event) (w : World) (rs : List ℤ) (b m : List ℕ) : Type 0 where
+  pub stand : Stand b m (final h w)
+  pub numbers : numbersOf p h rs ≡ map hostNumber (answersTo p h w)
+
+pub ran : (p : ℕ) {h : List Event} {b m b2 m2 : List ℕ} {rs : List ℤ} (w : World) → HostRuns h b m rs b2 m2 → Stand b m w → Ran p h w rs b2 m2
+ran p w over s = record { stand = s; numbers = refl }
+ran p w (next {e = e} {es = es} {rs = rs} f h run) s =
+    let one = stepped e _ _ _ _ w _ s f h in
+    let rest = ran p (step e w .world) run (one .stand) in
+    record {
+      stand = rest .stand;
+      numbers = cases (belongs p e)
+          (λ k. rw k (λ j. one .number j ∷ rest .numbers j))
+          (λ k. rw k (rest .numbers));
+    }
