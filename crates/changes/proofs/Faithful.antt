@@ -12,6 +12,7 @@ use borrow.Author.Tests.{eq-eqb, le-leb}
 use Rattle.lists.specs.Lists.{everyBelow, bit, tabulate}
 use Rattle.lists.specs.LittleEndian.{le, bytes, numberAt}
 use Rattle.lists.proofs.LittleEndian.{length-bytes, le-bytes}
+use Rattle.lists.proofs.Occurs.{bit-le}
 use Rattle.lists.proofs.Count.{everyBelow-intro}
 use Rattle.lists.proofs.Tabulate.{length-tabulate, getD-tabulate}
 use Rattle.tables.specs.declared.State.{State}
@@ -41,12 +42,7 @@ waits true = refl
 waits false = refl
 
 flag-low : (x : Bool) → bit x < 256 ^ 1
-flag-low true = omega arith
-flag-low false = omega arith
-
-flag-fits : (x : Bool) → bit x ≤ 1
-flag-fits true = omega arith
-flag-fits false = omega arith
+flag-low x = omega (arith, bit-le x)
 
 last-back : (a : LastAnswer) → lastOf (lastByte a) ≡ a
 last-back NoneYet = refl
@@ -113,7 +109,7 @@ module _ (s : State) (b : List ℕ) (h : Stands s b) (fit : Fits s) where
       let w = byte-read 3 waitingAt waitingByte refl (omega arith) refl i low (flag-low (r .waiting)) in
       let t = byte-read 4 timedAt timedByte refl (omega arith) refl i low (flag-low (r .timed)) in
       let a = byte-read 5 lastAt (λ q. lastByte (q .last)) refl (omega arith) refl i low (last-low (r .last) .0) in
-      rw (le-leb (getD b (waitingAt + i) 0) 1 (omega (arith, w, flag-fits (r .waiting))), le-leb (getD b (timedAt + i) 0) 1 (omega (arith, t, flag-fits (r .timed))), le-leb (getD b (lastAt + i) 0) 3 (omega (arith, a, last-low (r .last) .1))))
+      rw (le-leb (getD b (waitingAt + i) 0) 1 (omega (arith, w, bit-le (r .waiting))), le-leb (getD b (timedAt + i) 0) 1 (omega (arith, t, bit-le (r .timed))), le-leb (getD b (lastAt + i) 0) 3 (omega (arith, a, last-low (r .last) .1))))
 
   pub tables-back : tablesAt b ≡ s
   unfolding tablesAt

@@ -73,7 +73,7 @@ fn places_ok(b: &[u8]) -> bool
 fn time_ok(timed: bool, deadline: u64, now: u64) -> bool
     ensures { λ r. ⌜ r ≡ timeOk now timed deadline ⌝ }
 {
-    (timed & (now < deadline)) | (!timed & (deadline == 0))
+    (!timed & (deadline == 0)) | (timed & (now < deadline))
 }
 
 fn times_ok(b: &[u8], clock: u64) -> bool

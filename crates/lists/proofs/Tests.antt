@@ -3,7 +3,7 @@ use mathlib.Core.Path.{_≡_, refl, sym, _∙_}
 use mathlib.Core.Logic.{_⊎_, ⊎-elim}
 use Prim.Native.Nat.{ℕ}
 use native.Mathlib.Omega.{arith}
-use mathlib.Core.Bool.{Bool, true, false, _&&_, _||_, Bool·beq, true≢false}
+use mathlib.Core.Bool.{Bool, true, false, _&&_, _||_, Bool·beq, true≢false, not, cond, or-false}
 
 pub cases {ℓ} : {P : Type ℓ} (b : Bool) → (b ≡ true → P) → (b ≡ false → P) → P
 cases true t f = t refl
@@ -51,3 +51,8 @@ by-cases w f g = ⊎-elim f g w
 -- what equates two numbers that differ is refuted
 pub never {ℓ} : {P : Type ℓ} → _≡_ {A = ℕ} 0 1 → P
 never e = absurd (omega arith)
+
+-- a choice, as code without a branch makes it
+pub by-test : (b d e : Bool) → (not b && e || b && d) ≡ cond b d e
+by-test true d e = refl
+by-test false d e = or-false e

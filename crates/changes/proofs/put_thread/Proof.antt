@@ -1,11 +1,12 @@
 use denote.Ref.{now}
 use mathlib.Core.Path.{_≡_, refl, sym, ap, _∙_}
-use mathlib.Core.Bool.{Bool, true, false}
+use mathlib.Core.Bool.{Bool}
 use Prim.Native.Nat.{_+_, _*_, _%_}
 use native.Mathlib.Omega.{arith}
 use lib.ListN.{length, set, length-set}
 use lib.Seq.{sets}
 use Rattle.lists.specs.Lists.{bit}
+use Rattle.lists.proofs.Occurs.{bit-le}
 use Rattle.lists.specs.LittleEndian.{bytes}
 use Rattle.tables.specs.declared.LastAnswer.{LastAnswer}
 use Rattle.tables.specs.declared.LastAnswer.the-variants.{NoneYet, Woken, TimedOut, Interrupted}
@@ -16,8 +17,7 @@ use Rattle.changes.proofs.put_thread.Statement.{statement}
 use Rattle.changes.proofs.put_thread.Tie as tie
 
 flag-fits : (x : Bool) → bit x ≡ bit x % 256
-flag-fits true = refl
-flag-fits false = refl
+flag-fits x = omega (arith, bit-le x)
 
 last-fits : (a : LastAnswer) → lastByte a ≡ lastByte a % 256
 last-fits NoneYet = refl
