@@ -37,7 +37,7 @@ fn numbered(n: u32) -> Command
     }
 }
 
-pub fn command_of(op: u32) -> Command
+fn command_of(op: u32) -> Command
     ensures { λ r. ⌜ r ≡ commandOf op ⌝ }
 {
     let private = op / PRIVATE_BIT % 2;
@@ -74,7 +74,7 @@ fn row(cap: bool, second: bool, mask: bool, compare: bool, deadline: bool, moves
 }
 
 // Which arguments the command uses: cap, second, mask, compare, deadline, moves.
-pub fn uses(k: Command) -> Uses
+fn uses(k: Command) -> Uses
     ensures { λ r. ⌜ r ≡ uses k ⌝ }
 {
     match k {

@@ -22,11 +22,11 @@ use Rattle.rules.specs.declared.answer.Answer.the-variants.{Count}
 use Rattle.tables.specs.Sizes.{threads}
 use Rattle.tables.specs.Tables.{World, threadOf, arrivals, sharesBit, sleepsAt, wordAt, endSleeps, writeWord}
 use Rattle.tables.specs.Steps.{Flags, flagged, endFirst, moveFirst}
+use Rattle.rules.specs.Answers.{answered}
 use Rattle.rules.specs.Commands.{commandOf, isUnknown, uses}
 use Rattle.rules.specs.WakeOp.{compares}
 use Rattle.rules.specs.Calls.{matches, secondCap, candidates, released, moved, releasedSecond, wait, wake, requeue, wakeOp, callEffect}
 use Rattle.tables.specs.Tables.{world}
-use Rattle.effects.specs.Ready.{performed}
 use Rattle.tables.proofs.Changes.{arrivals-end, end-append}
 use Rattle.tables.proofs.Sound.{Sound, waiting-below, listed-waiting, once, arrivals-fit}
 use Rattle.tables.proofs.Kept.{sound-end}
@@ -61,7 +61,7 @@ module _ (k : Command) (c : Call) (s : State) (g : Sound s) (f : ℕ → Bool)
   abbrev first : Taken
   first = endFirst Woken f (c .val) s
 
-  pub wakes : (words : List ℕ) → record { answer = Count (first .n); state = first .state } ≡ performed (wake k c (world s words))
+  pub wakes : (words : List ℕ) → record { answer = Count (first .n); state = first .state } ≡ answered (wake k c (world s words))
   unfolding wake released endFirst
   wakes words = cc (is)
 
@@ -77,7 +77,7 @@ module _ (k : Command) (c : Call) (s : State) (g : Sound s) (f : ℕ → Bool)
   next = moveFirst (c .uaddr2) f (secondCap c) (first .state)
 
   pub requeues : (words : List ℕ)
-      → record { answer = Count (first .n + cond (uses k .compare) (next .n) 0); state = next .state } ≡ performed (requeue k c (world s words))
+      → record { answer = Count (first .n + cond (uses k .compare) (next .n) 0); state = next .state } ≡ answered (requeue k c (world s words))
   unfolding requeue released moved moveFirst
   requeues words = cc (left, first-is)
     where
@@ -116,7 +116,7 @@ module _ (k : Command) (c : Call) (w : World) (g : Sound (w .state)) (f h : ℕ 
       ap (λ (t : Taken). endFirst Woken h (cond holds (secondCap c) 0) (t .state)) one-is
       ∙ (unfold endFirst in cc (second-is))
 
-  pub releases-both : record { answer = Count (one .n + two .n); state = two .state } ≡ performed (wakeOp k c w)
+  pub releases-both : record { answer = Count (one .n + two .n); state = two .state } ≡ answered (wakeOp k c w)
   unfolding wakeOp writeWord
   releases-both =
       let n = ap (λ (t : Taken). t .n) one-is in

@@ -1,4 +1,4 @@
--- What a call that was not refused has shown, and what it then answers and leaves.
+-- What a call that was not refused has shown.
 use mathlib.Core.Path.{_≡_}
 use mathlib.Core.Bool.{true, false}
 use mathlib.Core.List.{List}
@@ -6,14 +6,9 @@ use Prim.Native.Nat.{ℕ, _<_}
 use lib.ListN.{length}
 use Rattle.tables.specs.declared.State.{State}
 use Rattle.rules.specs.declared.event.Call.{Call}
-use Rattle.effects.specs.declared.Performed.{Performed}
 use Rattle.tables.specs.Sizes.{processes, threadsPerProcess, threads, bytesPerProcess, memoryWords}
 use Rattle.tables.specs.Tables.{tablesOk}
-use Rattle.rules.specs.Answers.{Outcome}
 use Rattle.rules.specs.Commands.{commandOf, isUnknown, uses}
-
-abbrev pub performed : Outcome → Performed
-performed o = record { answer = o .answer; state = o .world .state }
 
 -- of itself and of the tables
 pub record Ready (c : Call) (s : State) : Type 0 where

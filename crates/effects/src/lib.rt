@@ -7,10 +7,11 @@ ghost use lib.ListN.{length};
 ghost use Rattle.tables.specs.Sizes.{bytesPerProcess, memoryWords};
 ghost use Rattle.tables.specs.Tables.{world, wordAt};
 ghost use Rattle.rules.specs.declared.answer.Answer.the-variants.{Count};
+ghost use Rattle.rules.specs.Answers.{answered};
 ghost use Rattle.rules.specs.WakeOp.{compares};
 ghost use Rattle.rules.specs.Commands.{commandOf};
 ghost use Rattle.rules.specs.Calls.{wait, wake, requeue, wakeOp, callEffect};
-ghost use Rattle.effects.specs.Ready.{performed, Ready, Granted};
+ghost use Rattle.effects.specs.Ready.{Ready, Granted};
 use commands::deadline_of;
 use commands::mask_of;
 use commands::second_cap;
@@ -21,20 +22,16 @@ use commands::word_index;
 use operations::compares;
 use operations::new_word;
 use rules::answer::Answer;
+use rules::answer::Answered;
 use rules::event::Call;
 use tables::LastAnswer;
 use tables::State;
 
-// What a command answers, and the tables that it leaves.
-pub struct Performed {
-    pub answer: Answer,
-    pub state: State,
-}
-
-fn counted(n: u32, s: State) -> Performed
+// This many, with these tables.
+pub fn counted(n: u32, s: State) -> Answered
     ensures { λ r. ⌜ r ≡ record { answer = Count n; state = s } ⌝ }
 {
-    Performed {
+    Answered {
         answer: Answer::Count(n),
         state: s,
     }
@@ -48,9 +45,9 @@ pub fn only_if(test: bool, n: u32) -> u32
 }
 
 // WAIT, WAIT_BITSET: the caller sleeps. This and the commands below are called by perform.
-fn wait(s: State, c: Call) -> Performed
+fn wait(s: State, c: Call) -> Answered
     requires { ⌜ Ready c s ⌝ }
-    ensures { λ r. ⌜ r ≡ performed (wait (commandOf (c .op)) c (world s [])) ⌝ }
+    ensures { λ r. ⌜ r ≡ answered (wait (commandOf (c .op)) c (world s [])) ⌝ }
 {
     let u = uses_by(c.op);
     let t = thread_index(c.process, c.index);
@@ -58,16 +55,16 @@ fn wait(s: State, c: Call) -> Performed
     let timed = timeout_given(c);
     let due = deadline_of(c, u.mask, s.clock);
     let next = s.fall_asleep(t, c.uaddr, bitset, timed, due);
-    Performed {
+    Answered {
         answer: Answer::Asleep,
         state: next,
     }
 }
 
 // WAKE, WAKE_BITSET.
-fn wake(s: State, c: Call) -> Performed
+fn wake(s: State, c: Call) -> Answered
     requires { ⌜ Ready c s ⌝ }
-    ensures { λ r. ⌜ r ≡ performed (wake (commandOf (c .op)) c (world s [])) ⌝ }
+    ensures { λ r. ⌜ r ≡ answered (wake (commandOf (c .op)) c (world s [])) ⌝ }
 {
     let u = uses_by(c.op);
     let flags = s.hits(c.process as usize, c.uaddr, !u.mask, c.val3);
@@ -77,9 +74,9 @@ fn wake(s: State, c: Call) -> Performed
 }
 
 // REQUEUE, CMP_REQUEUE: the first are released, the next move.
-fn requeue(s: State, c: Call) -> Performed
+fn requeue(s: State, c: Call) -> Answered
     requires { ⌜ Ready c s ⌝ }
-    ensures { λ r. ⌜ r ≡ performed (requeue (commandOf (c .op)) c (world s [])) ⌝ }
+    ensures { λ r. ⌜ r ≡ answered (requeue (commandOf (c .op)) c (world s [])) ⌝ }
 {
     let u = uses_by(c.op);
     let cap2 = second_cap(c);
@@ -93,9 +90,9 @@ fn requeue(s: State, c: Call) -> Performed
 }
 
 // The releases of a WAKE_OP, both chosen on the tables as they came, by whether its comparison holds.
-fn release_both(s: State, c: Call, holds: bool) -> Performed
+fn release_both(s: State, c: Call, holds: bool) -> Answered
     requires { ⌜ Ready c s ⌝ }
-    ensures { λ r. ⌜ ((ws : List ℕ) → compares (c .val3) (wordAt (world s ws) (c .process) (c .uaddr2)) ≡ holds → r ≡ performed (wakeOp (commandOf (c .op)) c (world s ws))) ⌝ }
+    ensures { λ r. ⌜ ((ws : List ℕ) → compares (c .val3) (wordAt (world s ws) (c .process) (c .uaddr2)) ≡ holds → r ≡ answered (wakeOp (commandOf (c .op)) c (world s ws))) ⌝ }
 {
     let u = uses_by(c.op);
     let cap2 = second_cap(c);
@@ -110,9 +107,9 @@ fn release_both(s: State, c: Call, holds: bool) -> Performed
 }
 
 // WAKE_OP: the second word is written, then sleepers of both words are released.
-fn wake_op(s: State, words: &mut [u32], c: Call) -> Performed
+fn wake_op(s: State, words: &mut [u32], c: Call) -> Answered
     requires { ⌜ (Ready c s) × ((c .uaddr2 < bytesPerProcess) × (length (now words) ≡ memoryWords)) ⌝ }
-    ensures { λ r. ⌜ (r ≡ performed (wakeOp (commandOf (c .op)) c (world s (now (words .entry))))) × (now (words .exit) ≡ wakeOp (commandOf (c .op)) c (world s (now (words .entry))) .world .words) ⌝ }
+    ensures { λ r. ⌜ (r ≡ answered (wakeOp (commandOf (c .op)) c (world s (now (words .entry))))) × (now (words .exit) ≡ wakeOp (commandOf (c .op)) c (world s (now (words .entry))) .world .words) ⌝ }
 {
     let i = word_index(c.process, c.uaddr2);
     let old = words[i];
@@ -123,9 +120,9 @@ fn wake_op(s: State, words: &mut [u32], c: Call) -> Performed
 }
 
 // What a call does that no row refuses. The kernel calls it after the table of answers.
-pub fn perform(s: State, words: &mut [u32], c: Call) -> Performed
+pub fn perform(s: State, words: &mut [u32], c: Call) -> Answered
     requires { ⌜ Granted c s (now words) ⌝ }
-    ensures { λ r. ⌜ (r ≡ performed (callEffect (commandOf (c .op)) c (world s (now (words .entry))))) × (now (words .exit) ≡ callEffect (commandOf (c .op)) c (world s (now (words .entry))) .world .words) ⌝ }
+    ensures { λ r. ⌜ (r ≡ answered (callEffect (commandOf (c .op)) c (world s (now (words .entry))))) × (now (words .exit) ≡ callEffect (commandOf (c .op)) c (world s (now (words .entry))) .world .words) ⌝ }
 {
     let u = uses_by(c.op);
     if u.deadline {

@@ -8,7 +8,8 @@ use Rattle.rules.specs.declared.event.Event.the-variants.{Call as CallEvent}
 use Rattle.tables.specs.Sizes.{bytesPerProcess}
 use Rattle.rules.specs.Commands.{commandOf}
 use Rattle.rules.specs.Events.{refusals}
-use Rattle.kernel.specs.Follows.{world, Granted}
+use Rattle.tables.specs.Tables.{world}
+use Rattle.effects.specs.Ready.{Granted}
 use Rattle.tables.proofs.Sound.{sound-tables, room}
 use Rattle.rules.proofs.Rows.{Clear}
 use Rattle.rules.proofs.Passed.{clear-passed, caller-below, uaddr2-inside}

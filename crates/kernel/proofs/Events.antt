@@ -12,7 +12,7 @@ use lib.Seq.{take-all}
 use lib.Dec.{eqb, ltb, leb}
 use borrow.Author.Tests.{eqb-true, eqb-false, ltb-true, ltb-false, lt-leb, le-leb}
 use Rattle.lists.specs.Lists.{filter, bit}
-use Rattle.lists.proofs.Tests.{cases, clash, and-intro, and-left, and-right}
+use Rattle.lists.proofs.Tests.{cases, clash, and-intro, and-left, and-right, bit-choice}
 use Rattle.lists.proofs.Filter.{length-filter, getD-replicated}
 use Rattle.lists.proofs.Occurs.{filter-agree, filter-same}
 use Rattle.tables.specs.declared.State.{State}
@@ -20,10 +20,10 @@ use Rattle.tables.specs.declared.Taken.{Taken}
 use Rattle.tables.specs.declared.LastAnswer.the-variants.{TimedOut, Interrupted}
 use Rattle.rules.specs.declared.answer.Answer.the-variants.{Count}
 use Rattle.tables.specs.Sizes.{processes, threadsPerProcess, threads}
-use Rattle.tables.specs.Tables.{World, threadOf, tablesOk, arrivals, expired, expiredSleepers, withClock, endSleeps}
+use Rattle.tables.specs.Tables.{world, World, threadOf, tablesOk, arrivals, expired, expiredSleepers, withClock, endSleeps}
 use Rattle.tables.specs.Steps.{Flags, flagged, endFirst}
+use Rattle.rules.specs.Answers.{answered}
 use Rattle.rules.specs.Events.{bitsBelow, waitingSet, clockEffect, interruptEffect}
-use Rattle.kernel.specs.Follows.{world, answered}
 use Rattle.tables.proofs.Sound.{Sound, waiting-below, listed-waiting, arrivals-fit}
 use Rattle.tables.proofs.Flags.{flag-here, flag-there}
 use Rattle.tables.proofs.Stored.{end-nobody}
@@ -89,13 +89,13 @@ bits-start waits = record { within = omega arith; value = refl; done = refl; bel
 pub bits-limit : {waits : ℕ → Bool} {bits one i : ℕ} → Bits waits bits one i → one ≤ 2 ^ threadsPerProcess
 bits-limit g = rw (g .value) (pow-mono (g .within))
 
-pub bits-next : (waits : ℕ → Bool) (bits one i b : ℕ) → Bits waits bits one i → i < threadsPerProcess → b ≡ bit (waits i) * one → b ≤ one
+pub bits-next : (waits : ℕ → Bool) (bits one i b : ℕ) → Bits waits bits one i → i < threadsPerProcess → b ≡ cond (waits i) one 0 → b ≤ one
     → Bits waits (bits + b) (one * 2) (i + 1)
 bits-next waits bits one i b g more is few =
     record {
       within = omega arith;
       value = ap (_* 2) (g .value) ∙ sym (rw (add-one i) (pow-suc 2 i));
-      done = cc (g .done, is, g .value, bitsBelow-next i waits);
+      done = cc (g .done, is, bit-choice (waits i) one, g .value, bitsBelow-next i waits);
       below = omega (arith, g .below);
     }
 

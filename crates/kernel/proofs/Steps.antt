@@ -8,10 +8,11 @@ use Rattle.rules.specs.declared.answer.Errno.{Errno}
 use Rattle.rules.specs.declared.answer.Verdict.{Verdict}
 use Rattle.rules.specs.declared.answer.Verdict.the-variants.{Refuse, Pass}
 use Rattle.rules.specs.declared.answer.Answer.the-variants.{Refused}
-use Rattle.kernel.specs.declared.Answered.{Answered}
-use Rattle.rules.specs.Answers.{Outcome, first}
+use Rattle.rules.specs.declared.answer.Answered.{Answered}
+use Rattle.rules.specs.Answers.{Outcome, first, answered}
 use Rattle.rules.specs.Events.{refusals, effect}
-use Rattle.kernel.specs.Follows.{world, answered, Follows}
+use Rattle.tables.specs.Tables.{world}
+use Rattle.kernel.specs.Follows.{Follows}
 use Rattle.rules.proofs.Rows.{Clear, pass-clear, step-refused, step-passed}
 
 module _ (e : Event) (s : State) (ws : List ℕ) (v : Verdict) (tested : v ≡ first (refusals e (world s ws))) where

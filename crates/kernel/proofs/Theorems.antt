@@ -7,13 +7,13 @@ use lib.ListN.{length}
 use Rattle.tables.specs.declared.State.{State}
 use Rattle.rules.specs.declared.event.Event.{Event}
 use Rattle.rules.specs.declared.answer.Answer.{Answer}
-use Rattle.kernel.specs.declared.Answered.{Answered}
+use Rattle.rules.specs.declared.answer.Answered.{Answered}
 use Rattle.tables.specs.Sizes.{bytesPerProcess, memoryWords}
-use Rattle.tables.specs.Tables.{wordAt, fresh}
+use Rattle.tables.specs.Tables.{world, wordAt, fresh}
 use Rattle.rules.specs.Events.{step}
 use Rattle.rules.specs.History.{start, final, belongs, strike, answersTo}
 use Rattle.rules.specs.Claims.{Alike}
-use Rattle.kernel.specs.Follows.{world, Follows}
+use Rattle.kernel.specs.Follows.{Follows}
 use Rattle.kernel.specs.Runs.{Runs, over, next, answersOf}
 use Rattle.rules.proofs.Theorems.{isolation}
 

@@ -4,15 +4,10 @@ use mathlib.Core.List.{List}
 use Prim.Native.Nat.{ℕ}
 use Rattle.tables.specs.declared.State.{State}
 use Rattle.rules.specs.declared.event.Event.{Event}
-use Rattle.kernel.specs.declared.Answered.{Answered}
-use Rattle.rules.specs.Answers.{Outcome}
+use Rattle.rules.specs.declared.answer.Answered.{Answered}
+use Rattle.rules.specs.Answers.{answered}
 use Rattle.rules.specs.Events.{step}
--- the tables with the lent words, and what a call that was not refused has shown, passed on
-pub use Rattle.tables.specs.Tables.{world}
-pub use Rattle.effects.specs.Ready.{Ready, Granted}
-
-abbrev pub answered : Outcome → Answered
-answered o = record { answer = o .answer; state = o .world .state }
+use Rattle.tables.specs.Tables.{world}
 
 -- The answer, the whole state and every word afterwards are those of the rules.
 pub record Follows (e : Event) (s : State) (before : List ℕ) (r : Answered) (after : List ℕ) : Type 0 where

@@ -6,7 +6,7 @@ use Prim.Native.Nat.{ℕ}
 use Rattle.tables.specs.declared.State.{State}
 use Rattle.rules.specs.declared.event.Event.{Event}
 use Rattle.rules.specs.declared.answer.Answer.{Answer}
-use Rattle.kernel.specs.declared.Answered.{Answered}
+use Rattle.rules.specs.declared.answer.Answered.{Answered}
 use Rattle.rules.specs.History.{belongs}
 use Rattle.kernel.specs.Follows.{Follows}
 

@@ -1,10 +1,10 @@
 // Calls: the table of answers, then what the call does.
 ghost use Rattle.rules.specs.declared.event.Event.the-variants.{Call as CallEvent};
 ghost use Rattle.kernel.specs.Follows.{Follows};
-use crate::Answered;
 use crate::refused;
 use effects::perform;
 use refusals::of_call;
+use rules::answer::Answered;
 use rules::answer::Verdict;
 use rules::event::Call;
 use tables::State;
@@ -16,14 +16,6 @@ pub fn call(s: State, words: &mut [u32], c: Call) -> Answered
     let v = of_call(s, words, c);
     match v {
         Verdict::Refuse(x) => refused(x, s),
-        Verdict::Pass => {
-            let p = perform(s, words, c);
-            let a = p.answer;
-            let next = p.state;
-            Answered {
-                answer: a,
-                state: next,
-            }
-        }
+        Verdict::Pass => perform(s, words, c),
     }
 }

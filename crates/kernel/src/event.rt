@@ -1,19 +1,19 @@
 // Other events: stores, clock events, interrupts and panel queries; and any event.
 ghost use mathlib.Core.Path.{_≡_};
-ghost use Prim.Native.Nat.{_*_, _≤_, _<_};
-ghost use Rattle.lists.specs.Lists.{bit};
+ghost use Prim.Native.Nat.{_<_};
 ghost use Rattle.tables.specs.Sizes.{processes};
 ghost use Rattle.rules.specs.declared.event.Event.the-variants.{Store, Clock, Interrupt};
 ghost use Rattle.rules.specs.Events.{waitingSet, panel};
 ghost use Rattle.kernel.specs.Follows.{Follows};
-use crate::Answered;
 use crate::call::call;
-use crate::counted;
 use crate::refused;
+use effects::counted;
+use effects::only_if;
 use refusals::of_clock;
 use refusals::of_interrupt;
 use refusals::of_store;
 use rules::answer::Answer;
+use rules::answer::Answered;
 use rules::answer::Panel;
 use rules::answer::Verdict;
 use rules::event::Event;
@@ -23,8 +23,8 @@ use tables::State;
 use tables::THREADS;
 use tables::THREADS_PER_PROCESS;
 use tables::check::tables_ok;
-use verdicts::command::thread_index;
-use verdicts::command::word_index;
+use commands::thread_index;
+use commands::word_index;
 
 // A store: one word is written, and nobody wakes.
 pub fn store(s: State, words: &mut [u32], process: u8, address: u32, value: u32) -> Answered
@@ -76,13 +76,6 @@ pub fn interrupt(s: State, words: &[u32], process: u8, index: u8) -> Answered
     }
 }
 
-// The place value of a bit that is set, or 0.
-pub fn bit_at(set: bool, value: u32) -> u32
-    ensures { λ r. ⌜ (r ≡ bit set * value) × (r ≤ value) ⌝ }
-{
-    if set { value } else { 0 }
-}
-
 // The waiting threads of a process, a bit for each. It is called by query, for a process that exists.
 fn waiting_set(s: State, process: usize) -> u8
     requires { ⌜ process < processes ⌝ }
@@ -94,7 +87,7 @@ fn waiting_set(s: State, process: usize) -> u8
     let mut i: usize = 0;
     while i < THREADS_PER_PROCESS {
         let t = s.threads[base + i];
-        let b = bit_at(t.waiting, one);
+        let b = only_if(t.waiting, one);
         bits += b;
         one = one * 2;
         i += 1;

@@ -1,19 +1,14 @@
 // Kernel: the code of every event, proved equal to the rules. It stands on refusals, effects and tables.
 ghost use mathlib.Core.Path.{_≡_};
-ghost use Rattle.rules.specs.declared.answer.Answer.the-variants.{Count, Refused};
+ghost use Rattle.rules.specs.declared.answer.Answer.the-variants.{Refused};
 
 pub mod call;
 pub mod event;
 
 use rules::answer::Answer;
+use rules::answer::Answered;
 use rules::answer::Errno;
 use tables::State;
-
-// What an event is answered, and the tables that it leaves.
-pub struct Answered {
-    pub answer: Answer,
-    pub state: State,
-}
 
 // A refusal: the tables are handed back as they came.
 fn refused(x: Errno, s: State) -> Answered
@@ -21,15 +16,6 @@ fn refused(x: Errno, s: State) -> Answered
 {
     Answered {
         answer: Answer::Refused(x),
-        state: s,
-    }
-}
-
-fn counted(n: u32, s: State) -> Answered
-    ensures { λ r. ⌜ r ≡ record { answer = Count n; state = s } ⌝ }
-{
-    Answered {
-        answer: Answer::Count(n),
         state: s,
     }
 }

@@ -1,9 +1,11 @@
 -- Laws of Boolean tests: going by cases, and what a conjunction or a disjunction tells.
 use mathlib.Core.Path.{_≡_, refl, sym, _∙_}
 use mathlib.Core.Logic.{_⊎_, ⊎-elim}
-use Prim.Native.Nat.{ℕ}
+use Prim.Native.Nat.{ℕ, _*_}
+use native.Mathlib.Nat.{one-mul, zero-mul}
 use native.Mathlib.Omega.{arith}
 use mathlib.Core.Bool.{Bool, true, false, _&&_, _||_, Bool·beq, true≢false, not, cond, or-false}
+use Rattle.lists.specs.Lists.{bit}
 
 pub cases {ℓ} : {P : Type ℓ} (b : Bool) → (b ≡ true → P) → (b ≡ false → P) → P
 cases true t f = t refl
@@ -56,3 +58,8 @@ never e = absurd (omega arith)
 pub by-test : (b d e : Bool) → (not b && e || b && d) ≡ cond b d e
 by-test true d e = refl
 by-test false d e = or-false e
+
+-- a number or 0, as a sum of bits has it
+pub bit-choice : (b : Bool) (n : ℕ) → cond b n 0 ≡ bit b * n
+bit-choice true n = sym (one-mul n)
+bit-choice false n = sym (zero-mul n)

@@ -14,7 +14,7 @@ use Rattle.rules.specs.Answers.{Row, _when_, first}
 use Rattle.rules.specs.Commands.{commandOf}
 use Rattle.rules.specs.Calls.{wrongMemory, brokenTables, callRows, callRefusals, differs}
 use Rattle.rules.specs.Events.{refusals}
-use Rattle.verdicts.specs.Places.{ThreadAt, WordAt}
+use Rattle.commands.specs.Places.{ThreadAt, WordAt}
 use Rattle.tables.specs.Tables.{world}
 use Rattle.rules.proofs.Rows.{Same, same-first}
 use Rattle.rules.proofs.Passed.{thread-process, thread-index, uaddr-inside}

@@ -15,11 +15,11 @@ use tables::State;
 use tables::WORD_BYTES;
 use tables::WORDS;
 use tables::check::tables_ok;
-use verdicts::command::thread_index;
-use verdicts::command::word_index;
-use verdicts::verdict::no_thread;
-use verdicts::verdict::row;
-use verdicts::verdict::verdict_on;
+use commands::thread_index;
+use commands::word_index;
+use verdicts::no_thread;
+use verdicts::row;
+use verdicts::verdict_on;
 
 // The rows of the memory and the tables, before the rows below them.
 fn tested(s: State, words: &[u32], below: Verdict) -> Verdict

@@ -11,6 +11,7 @@ use Rattle.rules.specs.declared.answer.Verdict.{Verdict}
 use Rattle.rules.specs.declared.answer.Verdict.the-variants.{Refuse, Pass}
 use Rattle.rules.specs.declared.answer.Answer.{Answer}
 use Rattle.rules.specs.declared.answer.Answer.the-variants.{Asleep, Count, Refused, Waiting}
+use Rattle.rules.specs.declared.answer.Answered.{Answered}
 use Rattle.tables.specs.Tables.{World}
 
 -- "Numbers are those of the Linux headers."
@@ -65,6 +66,10 @@ pub record Outcome : Type 0 where
 
 abbrev pub outcome : Answer → World → Outcome
 outcome a w = record { answer = a; world = w }
+
+-- what the code hands back of it; the words it changes where they lie
+abbrev pub answered : Outcome → Answered
+answered o = record { answer = o .answer; state = o .world .state }
 
 -- "Each of these leaves words, records, list and clock unchanged"
 abbrev pub judged : Verdict → Outcome → World → Outcome

@@ -1,6 +1,7 @@
 // What the kernel answers.
 ghost use mathlib.Core.Path.{_≡_};
 ghost use Rattle.rules.specs.Answers.{errnoNumber};
+use tables::State;
 
 // The error numbers of the Linux headers that a refusal can give.
 pub enum Errno {
@@ -53,4 +54,10 @@ pub enum Answer {
     Count(u32),
     Refused(Errno),
     Waiting(Panel),
+}
+
+// What an event is answered, and the tables that it leaves.
+pub struct Answered {
+    pub answer: Answer,
+    pub state: State,
 }

@@ -9,12 +9,14 @@ ghost use Rattle.tables.specs.Tables.{running, movedTo, asleepAt, expire
 ghost use Rattle.tables.specs.Steps.{changedBy, Numbers, Flags, flagged, endFirst, moveFirst};
 
 pub mod check;
-pub mod queue;
 
 pub use arrivals::NO_ENTRY;
 pub use arrivals::PROCESSES;
 pub use arrivals::THREADS;
 pub use arrivals::THREADS_PER_PROCESS;
+use arrivals::index_of;
+use arrivals::joined;
+use arrivals::split;
 
 pub const WORDS_PER_PROCESS: usize = 1024;
 
@@ -69,14 +71,14 @@ impl Thread {
         }
     }
 
-    pub fn moved_to(mut self, uaddr: u32) -> Self
+    fn moved_to(mut self, uaddr: u32) -> Self
         ensures { λ r. ⌜ r ≡ movedTo uaddr self ⌝ }
     {
         self.uaddr = uaddr;
         self
     }
 
-    pub fn changed(self, how: Change) -> Self
+    fn changed(self, how: Change) -> Self
         ensures { λ r. ⌜ r ≡ changedBy how self ⌝ }
     {
         match how {
@@ -142,7 +144,7 @@ impl State {
         let mut i: usize = 0;
         while i < n {
             let e = ts[i];
-            let x = queue::index_of(e);
+            let x = index_of(e);
             let t = self.threads[x];
             let u = t.changed(how);
             self.threads[x] = u;
@@ -157,7 +159,7 @@ impl State {
         ensures { λ r. ⌜ r ≡ endFirst last (flagged flags) cap self ⌝ }
     {
         let list = self.list;
-        let parts = queue::split(list, self.count, flags, cap);
+        let parts = split(list, self.count, flags, cap);
         let n = parts.n as u32;
         let taken = parts.taken;
         let mut s = self.changed(taken, parts.n, Change::End(last));
@@ -173,12 +175,12 @@ impl State {
         ensures { λ r. ⌜ r ≡ moveFirst uaddr (flagged flags) cap self ⌝ }
     {
         let list = self.list;
-        let parts = queue::split(list, self.count, flags, cap);
+        let parts = split(list, self.count, flags, cap);
         let n = parts.n as u32;
         let taken = parts.taken;
         let mut s = self.changed(taken, parts.n, Change::MoveTo(uaddr));
         let kept = parts.kept;
-        let all = queue::joined(kept, parts.count, taken, parts.n);
+        let all = joined(kept, parts.count, taken, parts.n);
         s.list = all;
         Taken { state: s, n: n }
     }

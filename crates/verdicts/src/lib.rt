@@ -1,4 +1,90 @@
-// Verdicts: which row of the table of answers refuses a call. It stands on commands and operations, and passes them on.
-pub mod command;
-pub mod verdict;
-pub mod wakeop;
+// Verdicts: the table of answers, every refusal of a call, on the few numbers that it reads. It stands on commands and operations.
+ghost use mathlib.Core.Path.{_≡_};
+ghost use mathlib.Core.Bool.{cond};
+ghost use Rattle.rules.specs.declared.answer.Verdict.the-variants.{Refuse};
+ghost use Rattle.rules.specs.Answers.{first};
+ghost use Rattle.rules.specs.Commands.{commandOf};
+ghost use Rattle.rules.specs.Calls.{noThread, badArgument, badAddress, differs, late, callRows};
+use commands::deadline_of;
+use commands::not_implemented;
+use commands::second_cap;
+use commands::timeout_given;
+use commands::uses_by;
+use operations::undefined_op;
+use rules::answer::Errno;
+use rules::answer::Verdict;
+use rules::event::Call;
+use tables::PROCESS_BYTES;
+use tables::PROCESSES;
+use tables::THREADS;
+use tables::THREADS_PER_PROCESS;
+use tables::WORD_BYTES;
+
+const MAX_CAP: u32 = 2147483647;
+
+// A row of the table, before the rows below it.
+pub fn row(x: Errno, applies: bool, below: Verdict) -> Verdict
+    ensures { λ r. ⌜ r ≡ cond applies (Refuse x) below ⌝ }
+{
+    if applies { Verdict::Refuse(x) } else { below }
+}
+
+pub fn no_thread(process: u8, index: u8) -> bool
+    ensures { λ r. ⌜ r ≡ noThread process index ⌝ }
+{
+    (PROCESSES <= process as usize) | (THREADS_PER_PROCESS <= index as usize)
+}
+
+fn bad_argument(c: Call) -> bool
+    ensures { λ r. ⌜ r ≡ badArgument (commandOf (c .op)) c ⌝ }
+{
+    let u = uses_by(c.op);
+    let cap2 = second_cap(c);
+    (u.cap & (MAX_CAP < c.val))
+        | (u.second & (MAX_CAP < cap2))
+        | (u.mask & (c.val3 == 0))
+        | (c.uaddr % WORD_BYTES != 0)
+        | (u.second & (c.uaddr2 % WORD_BYTES != 0))
+        | (u.moves & (c.uaddr == c.uaddr2))
+}
+
+fn bad_address(c: Call) -> bool
+    ensures { λ r. ⌜ r ≡ badAddress (commandOf (c .op)) c ⌝ }
+{
+    let u = uses_by(c.op);
+    (PROCESS_BYTES <= c.uaddr) | (u.second & (PROCESS_BYTES <= c.uaddr2))
+}
+
+fn differs(c: Call, word: u32) -> bool
+    ensures { λ r. ⌜ r ≡ differs (commandOf (c .op)) c word ⌝ }
+{
+    let u = uses_by(c.op);
+    let expected = if u.deadline { c.val } else { c.val3 };
+    u.compare & (word != expected)
+}
+
+fn late(c: Call, now: u64) -> bool
+    ensures { λ r. ⌜ r ≡ late (commandOf (c .op)) c now ⌝ }
+{
+    let u = uses_by(c.op);
+    let given = timeout_given(c);
+    let due = deadline_of(c, u.mask, now);
+    u.deadline & given & (due <= now)
+}
+
+// The verdict on a call whose memory and tables are sound, from the last row of the table up to its third.
+pub fn verdict_on(c: Call, waits: bool, now: u64, count: usize, word: u32) -> Verdict
+    ensures { λ r. ⌜ r ≡ first (callRows c waits now count word) ⌝ }
+{
+    let u = uses_by(c.op);
+    let undefined = undefined_op(c.val3);
+    let v = row(Errno::ENOMEM, THREADS <= count, Verdict::Pass);
+    let v = row(Errno::ETIMEDOUT, late(c, now), v);
+    let v = row(Errno::EAGAIN, differs(c, word), v);
+    let v = row(Errno::ENOSYS, u.second & !u.moves & undefined, v);
+    let v = row(Errno::EFAULT, bad_address(c), v);
+    let v = row(Errno::EINVAL, bad_argument(c), v);
+    let v = row(Errno::ENOSYS, not_implemented(c.op), v);
+    let v = row(Errno::EBUSY, waits, v);
+    row(Errno::ESRCH, no_thread(c.process, c.index), v)
+}

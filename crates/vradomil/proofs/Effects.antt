@@ -14,23 +14,21 @@ use Rattle.rules.specs.declared.event.Call.{Call}
 use Rattle.tables.specs.Sizes.{threads}
 use Rattle.tables.specs.Tables.{World, world, arrivals, wordAt}
 use Rattle.tables.specs.Steps.{endFirst, moveFirst}
-use Rattle.rules.specs.Answers.{Outcome}
+use Rattle.rules.specs.Answers.{Outcome, answered}
 use Rattle.rules.specs.Commands.{uses}
 use Rattle.rules.specs.WakeOp.{compares}
 use Rattle.rules.specs.Calls.{matches, secondCap, candidates, wake, requeue, wakeOp}
 use Rattle.tables.proofs.Sound.{Sound, sound-tables}
-use Rattle.kernel.specs.declared.Answered.{Answered}
-use Rattle.kernel.specs.Follows.{answered}
-use Rattle.effects.specs.declared.Performed.{Performed}
-use Rattle.effects.specs.Ready.{performed}
+use Rattle.rules.specs.declared.answer.Answered.{Answered}
+use Rattle.rules.specs.declared.answer.Answered.{Answered}
 use Rattle.effects.proofs.Effects.{end-sound, end-few, move-few, wakes, requeues, releases-both}
 use Rattle.changes.specs.Change.{Stands, Took}
 use Rattle.vradomil.specs.Host.{Done, Leaves}
 use Rattle.vradomil.proofs.Steps.{took-done, done-by}
 
 -- what the by-value commands leave
-by-performed : (o : Outcome) (p : Performed) (n : ℕ) (after : List ℕ) → p ≡ performed o → Done (p .answer) (p .state) n after → Leaves o n after
-by-performed o p n after is h = done-by _ _ _ _ n after (ap (λ (q : Performed). q .answer) is) (ap (λ (q : Performed). q .state) is) h
+by-answered : (o : Outcome) (p : Answered) (n : ℕ) (after : List ℕ) → p ≡ answered o → Done (p .answer) (p .state) n after → Leaves o n after
+by-answered o p n after is h = done-by _ _ _ _ n after (ap (λ (q : Answered). q .answer) is) (ap (λ (q : Answered). q .state) is) h
 
 pub answered-leaves : (o : Outcome) (a : Answered) (n : ℕ) (after : List ℕ) → a ≡ answered o → Done (a .answer) (a .state) n after → Leaves o n after
 answered-leaves o a n after is h = done-by _ _ _ _ n after (ap (λ (q : Answered). q .answer) is) (ap (λ (q : Answered). q .state) is) h
@@ -47,7 +45,7 @@ module _ (k : Command) (c : Call) (s : State) (g : Sound s) (f : ℕ → Bool)
     (is : filter f (arrivals s) ≡ candidates (matches k c) (c .process) (c .uaddr) s) where
   pub wake-done : (n : ℕ) (after : List ℕ) → Took (endFirst Woken f (c .val) s) n after → Leaves (wake k c (world s [])) n after
   wake-done n after t =
-      by-performed (wake k c (world s [])) _ n after (wakes k c s g f is [])
+      by-answered (wake k c (world s [])) _ n after (wakes k c s g f is [])
       (took-done (endFirst Woken f (c .val) s) n after t (omega (arith, ended-few Woken f (c .val) s n after g t)))
 
   -- counts of two changes
@@ -64,7 +62,7 @@ module _ (k : Command) (c : Call) (s : State) (g : Sound s) (f : ℕ → Bool)
   requeue-done n m more cap b after t limit u counts less =
       let v = subst (λ q. Took (moveFirst (c .uaddr2) f q (endFirst Woken f (c .val) s .state)) m after) limit u in
       let few = moved-few n m b after t cap u in
-      by-performed (requeue k c (world s [])) _ (n + more) after (requeues k c s g f is [])
+      by-answered (requeue k c (world s [])) _ (n + more) after (requeues k c s g f is [])
       (record {
         number = λ i. pos (t .number i + (counts ∙ ap (λ q. cond (uses k .compare) q 0) (v .number)) i) ∷ [];
         small = omega (arith, few);
@@ -83,5 +81,5 @@ module _ (k : Command) (c : Call) (w : World) (g : Sound (w .state)) (f h : ℕ 
       let v = subst (λ q. Took (endFirst Woken h q (one .state)) m after) limit u in
       let few = ended-few Woken f (c .val) (w .state) n b g t in
       let more = ended-few Woken h cap (one .state) m after (end-sound Woken f (c .val) (w .state) g) u in
-      by-performed (wakeOp k c w) _ (n + m) after (releases-both k c w g f h is is2)
+      by-answered (wakeOp k c w) _ (n + m) after (releases-both k c w g f h is is2)
       (record { number = λ i. pos (t .number i + v .number i) ∷ []; small = omega (arith, few, more); bytes = v .bytes })

@@ -28,16 +28,16 @@ use numbers::u64_at;
 use rules::answer::Verdict;
 use rules::event::Call;
 use tables::LastAnswer;
-use verdicts::command::deadline_of;
-use verdicts::command::mask_of;
-use verdicts::command::second_cap;
-use verdicts::command::thread_index;
-use verdicts::command::timeout_given;
-use verdicts::command::uses_by;
-use verdicts::command::word_index;
-use verdicts::verdict::verdict_on;
-use verdicts::wakeop::compares;
-use verdicts::wakeop::new_word;
+use commands::deadline_of;
+use commands::mask_of;
+use commands::second_cap;
+use commands::thread_index;
+use commands::timeout_given;
+use commands::uses_by;
+use commands::word_index;
+use verdicts::verdict_on;
+use operations::compares;
+use operations::new_word;
 
 // To a host, "asleep" is this number.
 const ASLEEP: u32 = 2147483647;

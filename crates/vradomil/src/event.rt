@@ -13,7 +13,7 @@ use crate::answer::refusal;
 use crate::lent::WORD_SIZE;
 use crate::lent::lent;
 use changes::end_first;
-use kernel::event::bit_at;
+use effects::only_if;
 use layout::CLOCK_AT;
 use layout::LIST_AT;
 use layout::TABLES_SIZE;
@@ -32,10 +32,10 @@ use tables::PROCESSES;
 use tables::THREADS;
 use tables::THREADS_PER_PROCESS;
 use tables::WORD_BYTES;
-use verdicts::command::thread_index;
-use verdicts::command::word_index;
-use verdicts::verdict::no_thread;
-use verdicts::verdict::row;
+use commands::thread_index;
+use commands::word_index;
+use verdicts::no_thread;
+use verdicts::row;
 
 // A store: one word is written, and nobody wakes.
 #[no_mangle]
@@ -120,7 +120,7 @@ fn waiting_set(tables: &[u8], process: usize) -> u8
     let mut i: usize = 0;
     while i < THREADS_PER_PROCESS {
         let waiting = tables[base + i];
-        let b = bit_at(waiting == 1, one);
+        let b = only_if(waiting == 1, one);
         bits += b;
         one = one * 2;
         i += 1;

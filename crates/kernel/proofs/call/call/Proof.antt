@@ -1,6 +1,4 @@
 use borrow.Author.Needs.{needs}
-use mathlib.Core.Path.{ap}
-use Rattle.effects.specs.declared.Performed.{Performed}
 use Rattle.rules.specs.declared.event.Event.the-variants.{Call as CallEvent}
 use Rattle.rules.specs.Events.{effect}
 use Rattle.kernel.proofs.Calls.{granted}
@@ -45,11 +43,11 @@ same-length-2 c = search needs
 returns-2 : tie.Need-returns-2
 unfolding effect
 returns-2 c =
-    let p = c .before .before .before in
+    let p = c .before .before in
     let m = p .before .before .before .before in
     let g = start m in
     follows-passed (CallEvent (g .args .c)) (g .args .s) (g .args .words .now) (m .of-call .result) (m .of-call .ensures) _ _ (p .before .before .enum-told .given .1)
-    (ap (λ (v : Performed). record { answer = v .answer; state = v .state }) (p .perform .ensures .0)) (p .perform .ensures .1)
+    (p .perform .ensures .0) (p .perform .ensures .1)
 
 pub call-spec : {M : Type 1} → statement M
 call-spec =

@@ -7,7 +7,7 @@ use Rattle.rules.specs.declared.event.Event.{Event}
 use Rattle.rules.specs.declared.event.Event.the-variants.{Query}
 use Rattle.rules.specs.declared.answer.Answer.the-variants.{Waiting}
 use Rattle.rules.specs.declared.answer.Verdict.the-variants.{Pass}
-use Rattle.kernel.specs.declared.Answered.{Answered}
+use Rattle.rules.specs.declared.answer.Answered.{Answered}
 use Rattle.rules.specs.Events.{refusals, effect}
 use Rattle.kernel.specs.Follows.{Follows}
 use Rattle.kernel.proofs.Steps.{follows-passed}

@@ -4,10 +4,10 @@ use mathlib.Core.Bool.{false}
 use Rattle.rules.specs.declared.event.Event.{Event}
 use Rattle.rules.specs.declared.event.Event.the-variants.{Interrupt}
 use Rattle.rules.specs.declared.answer.Verdict.the-variants.{Pass}
-use Rattle.tables.specs.Tables.{World, threadNumber}
+use Rattle.tables.specs.Tables.{world, World, threadNumber}
 use Rattle.rules.specs.Calls.{noThread}
+use Rattle.rules.specs.Answers.{answered}
 use Rattle.rules.specs.Events.{refusals, effect, interruptEffect}
-use Rattle.kernel.specs.Follows.{world, answered}
 use Rattle.tables.proofs.Sound.{Sound, sound-tables}
 use Rattle.rules.proofs.Rows.{Clear}
 use Rattle.rules.proofs.Passed.{sound-of, thread-process, thread-index}

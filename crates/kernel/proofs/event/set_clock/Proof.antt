@@ -3,9 +3,8 @@ use mathlib.Core.Path.{_≡_, refl, _∙_}
 use Rattle.rules.specs.declared.event.Event.{Event}
 use Rattle.rules.specs.declared.event.Event.the-variants.{Clock}
 use Rattle.rules.specs.declared.answer.Verdict.the-variants.{Pass}
-use Rattle.tables.specs.Tables.{World}
+use Rattle.tables.specs.Tables.{world, World}
 use Rattle.rules.specs.Events.{refusals, effect, clockEffect}
-use Rattle.kernel.specs.Follows.{world}
 use Rattle.tables.proofs.Sound.{Sound, sound-tables}
 use Rattle.rules.proofs.Rows.{Clear}
 use Rattle.rules.proofs.Passed.{sound-of}

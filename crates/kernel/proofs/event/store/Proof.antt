@@ -4,8 +4,7 @@ use native.Mathlib.Omega.{arith}
 use lib.ListN.{set}
 use Rattle.rules.specs.declared.answer.Verdict.the-variants.{Pass}
 use Rattle.tables.specs.Sizes.{processes, bytesPerProcess}
-use Rattle.tables.specs.Tables.{World}
-use Rattle.kernel.specs.Follows.{world}
+use Rattle.tables.specs.Tables.{world, World}
 use Rattle.rules.proofs.Rows.{Clear}
 use Rattle.rules.proofs.Passed.{memory-is}
 use Rattle.kernel.proofs.Steps.{cleared, follows-refused, follows-passed}

@@ -35,11 +35,11 @@ mul-t c = omega arith
 element-copy-out-t : tie.Need-element-copy-out-t Inv-loop μ-loop
 element-copy-out-t c = omega arith
 
-bit-at-requires : tie.Need-bit-at-requires Inv-loop μ-loop
-bit-at-requires c κs = search needs
+only-if-requires : tie.Need-only-if-requires Inv-loop μ-loop
+only-if-requires c κs = search needs
 
 add-bits : tie.Need-add-bits Inv-loop μ-loop
-add-bits c = omega (arith, bits-limit (c .before .before .before .loop .inv), c .bit-at .ensures .1, c .before .before .before .loop .inv .below)
+add-bits c = omega (arith, bits-limit (c .before .before .before .loop .inv), c .only-if .ensures .1, c .before .before .before .loop .inv .below)
 
 mul-one : tie.Need-mul-one Inv-loop μ-loop
 mul-one c = omega (arith, bits-limit (c .before .before .before .loop .inv))
@@ -54,7 +54,7 @@ loop-again : tie.Need-loop-again Inv-loop μ-loop
 loop-again c =
     let k = c .before .before .before in
     let g = k .before in
-    bits-next (waits (g .args .t1) (g .args .process)) (k .loop .bits) (k .loop .one) (k .loop .i) (c .bit-at .result) (k .loop .inv) (omega arith) (c .bit-at .ensures .0) (c .bit-at .ensures .1)
+    bits-next (waits (g .args .t1) (g .args .process)) (k .loop .bits) (k .loop .one) (k .loop .i) (c .only-if .result) (k .loop .inv) (omega arith) (c .only-if .ensures .0) (c .only-if .ensures .1)
 
 cast-result : tie.Need-cast-result Inv-loop μ-loop
 cast-result c = omega (arith, bits-limit (c .before .loop .inv), c .before .loop .inv .below)
@@ -76,7 +76,7 @@ waiting-set-spec =
     add-t
     mul-t
     element-copy-out-t
-    bit-at-requires
+    only-if-requires
     add-bits
     mul-one
     add-i

@@ -1,89 +1,54 @@
+use mathlib.Core.Path.{_≡_, ap, _∙_}
+use mathlib.Core.List.{[], _∷_}
+use Prim.Native.Nat.{ℕ, zero, suc, _≤_}
 use native.Mathlib.Omega.{arith}
 use borrow.Author.Needs.{needs}
+use lib.IntN.{pos, negℤ, _-ℤ_, +ℤ-idl}
+use mir.Syntax.{w32}
+use mir.Val.{SFits, toZ}
+use mir.Facts.{toZ-ofZ, toZ-pos}
+use Rattle.rules.specs.declared.answer.Errno.{Errno}
+use Rattle.rules.specs.declared.answer.Errno.the-variants.{ENXIO, EBADF, ESRCH, EBUSY, ENOSYS, EINVAL, EFAULT, EAGAIN, ETIMEDOUT, ENOMEM}
+use Rattle.rules.specs.Answers.{errnoNumber}
 use Rattle.vradomil.proofs.answer.refusal.Statement.{statement}
 use Rattle.vradomil.proofs.answer.refusal.Tie as tie
 
-enum-told : tie.Need-enum-told
-enum-told c = search needs
+-- no error number is above ETIMEDOUT's
+errno-small : (x : Errno) → errnoNumber x ≤ errnoNumber ETIMEDOUT
+errno-small ENXIO = omega arith
+errno-small EBADF = omega arith
+errno-small ESRCH = omega arith
+errno-small EBUSY = omega arith
+errno-small ENOSYS = omega arith
+errno-small EINVAL = omega arith
+errno-small EFAULT = omega arith
+errno-small EAGAIN = omega arith
+errno-small ETIMEDOUT = omega arith
+errno-small ENOMEM = omega arith
 
-enum-told-2 : tie.Need-enum-told-2
-enum-told-2 c = search needs
+negated : (n : ℕ) → n ≤ errnoNumber ETIMEDOUT → pos 0 -ℤ toZ w32 n ≡ negℤ (pos n)
+negated n few = ap (pos 0 -ℤ_) (toZ-pos w32 {n = n} (omega arith)) ∙ +ℤ-idl (negℤ (pos n))
 
-enum-told-3 : tie.Need-enum-told-3
-enum-told-3 c = search needs
+negated-fits : (n : ℕ) → n ≤ errnoNumber ETIMEDOUT → SFits w32 (negℤ (pos n))
+negated-fits zero few = record { sfits = omega arith }
+negated-fits (suc n) few = record { sfits = omega arith }
 
-enum-told-4 : tie.Need-enum-told-4
-enum-told-4 c = search needs
+small : (c : tie.After-number) → c .number .result ≤ errnoNumber ETIMEDOUT
+small c = rw (c .number .ensures) (errno-small (c .before .args .x))
 
-enum-told-5 : tie.Need-enum-told-5
-enum-told-5 c = search needs
+number-requires : tie.Need-number-requires
+number-requires c κs = search needs
 
-enum-told-6 : tie.Need-enum-told-6
-enum-told-6 c = search needs
+cast-result : tie.Need-cast-result
+cast-result c = record { sfits = omega (arith, small c) }
 
-enum-told-7 : tie.Need-enum-told-7
-enum-told-7 c = search needs
-
-enum-told-8 : tie.Need-enum-told-8
-enum-told-8 c = search needs
-
-enum-told-9 : tie.Need-enum-told-9
-enum-told-9 c = search needs
-
-enum-told-10 : tie.Need-enum-told-10
-enum-told-10 c = search needs
+sub-result : tie.Need-sub-result
+sub-result c = rw (negated (c .number .result) (small c)) (negated-fits (c .number .result) (small c))
 
 returns : tie.Need-returns
-returns c = (rw (c .enum-told .given .1), record { sfits = omega arith })
-
-returns-2 : tie.Need-returns-2
-returns-2 c = (rw (c .enum-told2 .given .1), record { sfits = omega arith })
-
-returns-3 : tie.Need-returns-3
-returns-3 c = (rw (c .enum-told3 .given .1), record { sfits = omega arith })
-
-returns-4 : tie.Need-returns-4
-returns-4 c = (rw (c .enum-told4 .given .1), record { sfits = omega arith })
-
-returns-5 : tie.Need-returns-5
-returns-5 c = (rw (c .enum-told5 .given .1), record { sfits = omega arith })
-
-returns-6 : tie.Need-returns-6
-returns-6 c = (rw (c .enum-told6 .given .1), record { sfits = omega arith })
-
-returns-7 : tie.Need-returns-7
-returns-7 c = (rw (c .enum-told7 .given .1), record { sfits = omega arith })
-
-returns-8 : tie.Need-returns-8
-returns-8 c = (rw (c .enum-told8 .given .1), record { sfits = omega arith })
-
-returns-9 : tie.Need-returns-9
-returns-9 c = (rw (c .enum-told9 .given .1), record { sfits = omega arith })
-
-returns-10 : tie.Need-returns-10
-returns-10 c = (rw (c .enum-told10 .given .1), record { sfits = omega arith })
+returns c =
+    let is = toZ-ofZ (sub-result c) ∙ negated (c .number .result) (small c) in
+    (ap (λ z. z ∷ []) (is ∙ ap (λ n. negℤ (pos n)) (c .number .ensures)), rw is (negated-fits (c .number .result) (small c)))
 
 pub refusal-spec : {M : Type 1} → statement M
-refusal-spec =
-    tie.close
-    (tie.spec
-    enum-told
-    enum-told-2
-    enum-told-3
-    enum-told-4
-    enum-told-5
-    enum-told-6
-    enum-told-7
-    enum-told-8
-    enum-told-9
-    enum-told-10
-    returns
-    returns-2
-    returns-3
-    returns-4
-    returns-5
-    returns-6
-    returns-7
-    returns-8
-    returns-9
-    returns-10)
+refusal-spec = tie.close (tie.spec number-requires cast-result sub-result returns)

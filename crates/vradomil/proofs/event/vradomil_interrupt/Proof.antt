@@ -13,14 +13,13 @@ use Rattle.rules.specs.declared.event.Event.the-variants.{Interrupt}
 use Rattle.rules.specs.declared.answer.Errno.the-variants.{ESRCH}
 use Rattle.rules.specs.declared.answer.Verdict.the-variants.{Refuse, Pass}
 use Rattle.tables.specs.Sizes.{threads}
-use Rattle.tables.specs.Tables.{threadNumber}
+use Rattle.tables.specs.Tables.{world, threadNumber}
 use Rattle.tables.specs.Steps.{flagged, endFirst}
 use Rattle.tables.proofs.Sound.{Sound, tables-sound}
-use Rattle.rules.specs.Answers.{first}
+use Rattle.rules.specs.Answers.{first, answered}
 use Rattle.rules.specs.Calls.{noThread}
 use Rattle.rules.specs.Events.{refusals, interruptEffect, effect}
 use Rattle.rules.proofs.Passed.{thread-process, thread-index}
-use Rattle.kernel.specs.Follows.{world, answered}
 use Rattle.kernel.proofs.Events.{interrupt-ends}
 use Rattle.layout.specs.Layout.{stateAt, wordsAt}
 use Rattle.layout.specs.Check.{Held}

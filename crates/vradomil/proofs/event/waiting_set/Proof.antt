@@ -1,12 +1,11 @@
 use denote.Ref.{now}
 use mathlib.Core.Path.{_≡_, sym, ap, _∙_}
-use mathlib.Core.Bool.{Bool}
+use mathlib.Core.Bool.{Bool, cond}
 use Prim.Native.Nat.{ℕ, _+_, _*_, _-_}
 use native.Mathlib.Omega.{arith}
 use borrow.Author.Needs.{needs}
 use lib.ListN.{getD}
 use lib.Dec.{eqb}
-use Rattle.lists.specs.Lists.{bit}
 use Rattle.tables.specs.declared.State.{State}
 use Rattle.tables.specs.declared.Thread.{Thread}
 use Rattle.tables.specs.Sizes.{threadsPerProcess}
@@ -43,11 +42,11 @@ add-waiting c = omega arith
 shared-slice-read-waiting : tie.Need-shared-slice-read-waiting Inv-loop μ-loop
 shared-slice-read-waiting c = omega arith
 
-bit-at-requires : tie.Need-bit-at-requires Inv-loop μ-loop
-bit-at-requires c κs = search needs
+only-if-requires : tie.Need-only-if-requires Inv-loop μ-loop
+only-if-requires c κs = search needs
 
 add-bits : tie.Need-add-bits Inv-loop μ-loop
-add-bits c = omega (arith, bits-limit (c .before .before .before .loop .inv), c .bit-at .ensures .1, c .before .before .before .loop .inv .below)
+add-bits c = omega (arith, bits-limit (c .before .before .before .loop .inv), c .only-if .ensures .1, c .before .before .before .loop .inv .below)
 
 mul-one : tie.Need-mul-one Inv-loop μ-loop
 mul-one c = omega (arith, bits-limit (c .before .before .before .loop .inv))
@@ -67,7 +66,7 @@ loop-again c =
     let i = k .loop .i in
     let place : waitingAt + threadsPerProcess * p + i ≡ waitingAt + threadNumber p i = omega arith in
     let read = ap (λ n. eqb (getD b n 0) 1) place ∙ ap (λ (r : Thread). r .waiting) (sym (thread-read b (threadNumber p i) (omega arith))) in
-    bits-next (waits (stateAt b) p) (k .loop .bits) (k .loop .one) i (c .bit-at .result) (k .loop .inv) (omega arith) (c .bit-at .ensures .0 ∙ ap (λ w. bit w * k .loop .one) read) (c .bit-at .ensures .1)
+    bits-next (waits (stateAt b) p) (k .loop .bits) (k .loop .one) i (c .only-if .result) (k .loop .inv) (omega arith) (c .only-if .ensures .0 ∙ ap (λ w. cond w (k .loop .one) 0) read) (c .only-if .ensures .1)
 
 cast-result : tie.Need-cast-result Inv-loop μ-loop
 cast-result c = omega (arith, bits-limit (c .before .loop .inv), c .before .loop .inv .below)
@@ -90,7 +89,7 @@ waiting-set-spec =
     loop-holds
     add-waiting
     shared-slice-read-waiting
-    bit-at-requires
+    only-if-requires
     add-bits
     mul-one
     add-i

@@ -1,8 +1,8 @@
 use borrow.Author.Needs.{needs}
 use mathlib.Core.Path.{sym, ap, _∙_}
 use Rattle.lists.proofs.Tests.{by-cases}
-use Rattle.verdicts.proofs.verdict.differs.Statement.{statement}
-use Rattle.verdicts.proofs.verdict.differs.Tie as tie
+use Rattle.verdicts.proofs.differs.Statement.{statement}
+use Rattle.verdicts.proofs.differs.Tie as tie
 
 uses-by-requires : tie.Need-uses-by-requires
 uses-by-requires c κs = search needs

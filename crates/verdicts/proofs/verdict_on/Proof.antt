@@ -1,7 +1,7 @@
 use borrow.Author.Needs.{needs}
 use Rattle.rules.specs.Calls.{callRows}
-use Rattle.verdicts.proofs.verdict.verdict_on.Statement.{statement}
-use Rattle.verdicts.proofs.verdict.verdict_on.Tie as tie
+use Rattle.verdicts.proofs.verdict_on.Statement.{statement}
+use Rattle.verdicts.proofs.verdict_on.Tie as tie
 
 uses-by-requires : tie.Need-uses-by-requires
 uses-by-requires c κs = search needs

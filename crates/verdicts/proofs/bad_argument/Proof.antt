@@ -1,7 +1,7 @@
 use borrow.Author.Needs.{needs}
 use Rattle.rules.specs.Calls.{badArgument}
-use Rattle.verdicts.proofs.verdict.bad_argument.Statement.{statement}
-use Rattle.verdicts.proofs.verdict.bad_argument.Tie as tie
+use Rattle.verdicts.proofs.bad_argument.Statement.{statement}
+use Rattle.verdicts.proofs.bad_argument.Tie as tie
 
 uses-by-requires : tie.Need-uses-by-requires
 uses-by-requires c κs = search needs

@@ -1,6 +1,6 @@
 use borrow.Author.Needs.{needs}
-use Rattle.verdicts.proofs.verdict.late.Statement.{statement}
-use Rattle.verdicts.proofs.verdict.late.Tie as tie
+use Rattle.verdicts.proofs.late.Statement.{statement}
+use Rattle.verdicts.proofs.late.Tie as tie
 
 uses-by-requires : tie.Need-uses-by-requires
 uses-by-requires c κs = search needs

@@ -1,6 +1,6 @@
 use borrow.Author.Needs.{needs}
-use Rattle.verdicts.proofs.verdict.row.Statement.{statement}
-use Rattle.verdicts.proofs.verdict.row.Tie as tie
+use Rattle.verdicts.proofs.row.Statement.{statement}
+use Rattle.verdicts.proofs.row.Tie as tie
 
 returns : tie.Need-returns
 returns c = rw (c .if1 .taken)
