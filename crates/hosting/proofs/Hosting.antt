@@ -15,7 +15,7 @@ use Rattle.tables.specs.Tables.{World, writeWord}
 use Rattle.tables.proofs.Sound.{sound-tables}
 use Rattle.rules.specs.Answers.{Outcome, answerNumbers}
 use Rattle.rules.specs.Events.{refusals, clockEffect, panel, effect, step}
-use Rattle.rules.specs.History.{belongs, final, answersTo}
+use Rattle.rules.specs.History.{belongs, final, answers, entriesOf}
 use Rattle.rules.proofs.Rows.{verdicts, clear-pass, step-refused, step-passed}
 use Rattle.rules.proofs.Preserved.{Valid, step-valid}
 use Rattle.rules.proofs.Theorems.{refusal-leaves-all}
@@ -24,7 +24,7 @@ use Rattle.layout.specs.Layout.{tablesBytes, wordsBytes, wordsAt}
 use Rattle.changes.proofs.Faithful.{tables-back}
 use Rattle.vradomil.specs.Host.{seen, isRefused, tablesLeft, wordsLeft, packed}
 use Rattle.vradomil.proofs.Theorems.{words-stand}
-use Rattle.hosting.specs.Hosts.{Hosted, called, stored, clocked, interrupted, queried, EventFits, HostRuns, over, next, numbersOf, hostNumber}
+use Rattle.hosting.specs.Hosts.{Hosted, called, stored, clocked, interrupted, queried, EventFits, HostRuns, over, next, hostNumber}
 use Rattle.hosting.proofs.Fitting.{FitsWorld, step-fits}
 
 pub record Stand (b m : List ℕ) (w : World) : Type 0 where
@@ -151,18 +151,21 @@ stepped (Query p) b m b1 m1 w r s f (queried h) =
     }
 
 -- over a whole history
-pub record Ran (p : ℕ) (h : List Event) (w : World) (rs : List ℤ) (b m : List ℕ) : Type 0 where
+pub record Ran (h : List Event) (w : World) (rs : List ℤ) (b m : List ℕ) : Type 0 where
   pub stand : Stand b m (final h w)
-  pub numbers : numbersOf p h rs ≡ map hostNumber (answersTo p h w)
+  pub numbers : rs ≡ map hostNumber (answers h w)
 
-pub ran : (p : ℕ) {h : List Event} {b m b2 m2 : List ℕ} {rs : List ℤ} (w : World) → HostRuns h b m rs b2 m2 → Stand b m w → Ran p h w rs b2 m2
-ran p w over s = record { stand = s; numbers = refl }
-ran p w (next {e = e} {es = es} {rs = rs} f h run) s =
+pub ran : {h : List Event} {b m b2 m2 : List ℕ} {rs : List ℤ} (w : World) → HostRuns h b m rs b2 m2 → Stand b m w → Ran h w rs b2 m2
+ran w over s = record { stand = s; numbers = refl }
+ran w (next {e = e} f h run) s =
     let one = stepped e _ _ _ _ w _ s f h in
-    let rest = ran p (step e w .world) run (one .stand) in
-    record {
-      stand = rest .stand;
-      numbers = cases (belongs p e)
-          (λ k. rw k (λ j. one .number j ∷ rest .numbers j))
-          (λ k. rw k (rest .numbers));
-    }
+    let rest = ran (step e w .world) run (one .stand) in
+    record { stand = rest .stand; numbers = λ j. one .number j ∷ rest .numbers j }
+
+-- the numbers of the process's events are those of its answers
+pub entries-map : {A B : Type 0} (f : A → B) (p : ℕ) (h : List Event) (l : List A) → entriesOf p h (map f l) ≡ map f (entriesOf p h l)
+entries-map f p [] l = refl
+entries-map f p (e ∷ es) [] = refl
+entries-map f p (e ∷ es) (x ∷ l) =
+    let ih = entries-map f p es l in
+    cases (belongs p e) (λ k. rw (k, ih)) (λ k. rw (k, ih))

@@ -10,15 +10,18 @@ use Rattle.rules.specs.declared.event.Event.{Event}
 use Rattle.tables.specs.declared.LastAnswer.the-variants.{NoneYet}
 use Rattle.tables.specs.Sizes.{threads, bytesPerProcess, memoryWords}
 use Rattle.tables.specs.Tables.{wordAt, fresh, running, threadOf}
-use Rattle.rules.specs.History.{start, final, strike}
+use Rattle.rules.specs.History.{start, final, answers, keptFor, entriesOf}
 use Rattle.rules.specs.Claims.{Alike}
 use Rattle.rules.proofs.Preserved.{start-valid}
 use Rattle.rules.proofs.Theorems.{isolation}
-use Rattle.layout.specs.Layout.{tablesBytes, wordsBytes}
+use Rattle.lists.specs.LittleEndian.{Bytes}
+use Rattle.layout.specs.Layout.{tablesBytes, wordsAt, memorySize}
+use Rattle.layout.proofs.Exact.{words-exact}
 use Rattle.changes.specs.Change.{Fits}
 use Rattle.vradomil.specs.Host.{seen}
-use Rattle.hosting.specs.Hosts.{HostRuns, numbersOf, WordsFit, hostNumber}
-use Rattle.hosting.proofs.Hosting.{Stand, seen-is, ran}
+use Rattle.vradomil.proofs.Memory.{words-length, word-fits}
+use Rattle.hosting.specs.Hosts.{HostRuns, hostNumber}
+use Rattle.hosting.proofs.Hosting.{Stand, seen-is, ran, entries-map}
 
 fresh-fits : Fits fresh
 unfolding fresh
@@ -29,24 +32,40 @@ fresh-fits =
           rw e (record { uaddr = omega arith; bitset = omega arith; deadline = omega arith });
     }
 
--- fresh tables, as vradomil_fresh lays them down, and any words
-at-start : (us : List ℕ) → length us ≡ memoryWords → WordsFit us → Stand (tablesBytes fresh) (wordsBytes us) (start us)
-at-start us long fit =
-    record { tables = refl; words = refl; valid = start-valid us long; fits = record { state = fresh-fits; words = fit } }
+-- fresh tables, as vradomil_fresh lays them down, and any buffer of words
+at-start : (m : List ℕ) → length m ≡ memorySize → Bytes m → Stand (tablesBytes fresh) m (start (wordsAt m))
+at-start m size low =
+    record {
+      tables = refl;
+      words = words-exact memoryWords m size low;
+      valid = start-valid (wordsAt m) (words-length memoryWords m size);
+      fits = record { state = fresh-fits; words = word-fits memoryWords m size low };
+    }
 
--- Take any process and any two histories that a host runs from fresh tables over words of full length, with equal words for that process. If
+-- What a host gets of any history, from fresh tables over a buffer of full length: every number is that of the rules' answer, and the bytes
+-- at the end stand for the tables and words that the rules leave.
+pub host-run : (m : List ℕ) → length m ≡ memorySize → Bytes m
+    → {h : List Event} {rs : List ℤ} {b′ m′ : List ℕ} → HostRuns h (tablesBytes fresh) m rs b′ m′
+    → (rs ≡ map hostNumber (answers h (start (wordsAt m)))) × (seen b′ m′ ≡ final h (start (wordsAt m)))
+host-run m size low run =
+    let all = ran (start (wordsAt m)) run (at-start m size low) in
+    (all .numbers, seen-is _ _ _ (all .stand))
+
+-- Take any process and any two histories that a host runs from fresh tables over buffers of full length, with equal words for that process. If
 -- equal histories are left when the events that name another process are struck, the process's events got the same numbers in the same
 -- order, and its words, records and order of sleepers are the same at the end.
-pub host-isolation : (p : ℕ) (us vs : List ℕ) → length us ≡ memoryWords → length vs ≡ memoryWords → WordsFit us → WordsFit vs
-    → ((a : ℕ) → a < bytesPerProcess → wordAt (start us) p a ≡ wordAt (start vs) p a)
-    → {g h : List Event} → strike p g ≡ strike p h
-    → {rs ss : List ℤ} {b m c n : List ℕ}
-    → HostRuns g (tablesBytes fresh) (wordsBytes us) rs b m → HostRuns h (tablesBytes fresh) (wordsBytes vs) ss c n
-    → (numbersOf p g rs ≡ numbersOf p h ss) × Alike p (seen b m) (seen c n)
-host-isolation p us vs lu lv fu fv words {g} {h} e run other =
-    let same = isolation p us vs lu lv words g h e in
-    let one = ran p (start us) run (at-start us lu fu) in
-    let two = ran p (start vs) other (at-start vs lv fv) in (
-      one .numbers ∙ ap (map hostNumber) (same .0) ∙ sym (two .numbers),
-      subst₂ (Alike p) (sym (seen-is _ _ (final g (start us)) (one .stand))) (sym (seen-is _ _ (final h (start vs)) (two .stand))) (same .1),
+pub host-isolation : (p : ℕ) (m n : List ℕ) → length m ≡ memorySize → length n ≡ memorySize → Bytes m → Bytes n
+    → ((a : ℕ) → a < bytesPerProcess → wordAt (start (wordsAt m)) p a ≡ wordAt (start (wordsAt n)) p a)
+    → {g h : List Event} → keptFor p g ≡ keptFor p h
+    → {rs ss : List ℤ} {b′ m′ c′ n′ : List ℕ}
+    → HostRuns g (tablesBytes fresh) m rs b′ m′ → HostRuns h (tablesBytes fresh) n ss c′ n′
+    → (entriesOf p g rs ≡ entriesOf p h ss) × Alike p (seen b′ m′) (seen c′ n′)
+host-isolation p m n sm sn lm ln words {g} {h} e run other =
+    let same = isolation p (wordsAt m) (wordsAt n) (words-length memoryWords m sm) (words-length memoryWords n sn) words g h e in
+    let one = host-run m sm lm run in
+    let two = host-run n sn ln other in (
+      ap (entriesOf p g) (one .0) ∙ entries-map hostNumber p g (answers g (start (wordsAt m)))
+      ∙ ap (map hostNumber) (same .0)
+      ∙ sym (ap (entriesOf p h) (two .0) ∙ entries-map hostNumber p h (answers h (start (wordsAt n)))),
+      subst₂ (Alike p) (sym (one .1)) (sym (two .1)) (same .1),
     )

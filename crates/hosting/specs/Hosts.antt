@@ -1,7 +1,6 @@
 -- A host's histories: each event is handed the bytes that the one before it left, and all that is known of what it answers and leaves is the
 -- contract of its entry point.
 use mathlib.Core.Path.{_≡_}
-use mathlib.Core.Bool.{cond}
 use mathlib.Core.List.{List, [], _∷_}
 use Prim.Native.Nat.{ℕ, _^_, _<_}
 use lib.IntN.{ℤ, pos}
@@ -14,20 +13,19 @@ use Rattle.rules.specs.declared.answer.Answer.the-variants.{Asleep, Count, Refu
 use Rattle.tables.specs.Sizes.{wordBytes}
 use Rattle.rules.specs.Answers.{answerNumbers}
 use Rattle.rules.specs.Events.{panel}
-use Rattle.rules.specs.History.{belongs}
 use Rattle.layout.specs.Layout.{tablesAt}
-use Rattle.vradomil.specs.Host.{Calls, Stores, Ticks, packed}
+use Rattle.vradomil.specs.Host.{Calls, ChangesWords, ChangesTables, packed}
 
--- What one call of the library answers and leaves. A store is lent the tables to read, a clock event and an interrupt the words, a panel
--- query both, so these stay.
+-- What one call of the library answers and leaves. A store is lent the tables to read, a clock event and an interrupt the words, and a panel
+-- query the tables to read and no words: so these stay.
 pub data Hosted : Event → List ℕ → List ℕ → ℤ → List ℕ → List ℕ → Type 0 where
   called : {c : Call} {b m bAfter mAfter : List ℕ} {r : ℤ} → Calls c b m r bAfter mAfter → Hosted (CallEvent c) b m r bAfter mAfter
-  stored : {p a v : ℕ} {b m mAfter : List ℕ} {r : ℤ} → Stores (Store p a v) b m r mAfter → Hosted (Store p a v) b m r b mAfter
-  clocked : {now : ℕ} {b m bAfter : List ℕ} {r : ℤ} → Ticks (Clock now) b m r bAfter → Hosted (Clock now) b m r bAfter m
-  interrupted : {p i : ℕ} {b m bAfter : List ℕ} {r : ℤ} → Ticks (Interrupt p i) b m r bAfter → Hosted (Interrupt p i) b m r bAfter m
+  stored : {p a v : ℕ} {b m mAfter : List ℕ} {r : ℤ} → ChangesWords (Store p a v) b m r mAfter → Hosted (Store p a v) b m r b mAfter
+  clocked : {now : ℕ} {b m bAfter : List ℕ} {r : ℤ} → ChangesTables (Clock now) b m r bAfter → Hosted (Clock now) b m r bAfter m
+  interrupted : {p i : ℕ} {b m bAfter : List ℕ} {r : ℤ} → ChangesTables (Interrupt p i) b m r bAfter → Hosted (Interrupt p i) b m r bAfter m
   queried : {p n : ℕ} {b m : List ℕ} → n ≡ packed (panel p (tablesAt b)) → Hosted (Query p) b m (pos n) b m
 
--- The arguments of an event fit their types in C.
+-- The arguments that tables or words may come to hold fit their types in C.
 pub record CallFits (c : Call) : Type 0 where
   pub uaddr : c .uaddr < 256 ^ 4
   pub uaddr2 : c .uaddr2 < 256 ^ 4
@@ -46,12 +44,6 @@ pub data HostRuns : List Event → List ℕ → List ℕ → List ℤ → List �
   over : {b m : List ℕ} → HostRuns [] b m [] b m
   next : {e : Event} {es : List Event} {b m b1 m1 b2 m2 : List ℕ} {r : ℤ} {rs : List ℤ}
       → EventFits e → Hosted e b m r b1 m1 → HostRuns es b1 m1 rs b2 m2 → HostRuns (e ∷ es) b m (r ∷ rs) b2 m2
-
--- the numbers that the process's events got, in order
-abbrev pub numbersOf : ℕ → List Event → List ℤ → List ℤ
-numbersOf p [] rs = []
-numbersOf p (e ∷ es) [] = []
-numbersOf p (e ∷ es) (r ∷ rs) = cond (belongs p e) (r ∷ numbersOf p es rs) (numbersOf p es rs)
 
 -- each word fits
 abbrev pub WordsFit : List ℕ → Type 0

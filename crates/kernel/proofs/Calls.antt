@@ -1,3 +1,4 @@
+use Rattle.rules.specs.Claims.{Clear}
 -- A call that is not refused.
 use mathlib.Core.List.{List}
 use Prim.Native.Nat.{ℕ}
@@ -11,7 +12,6 @@ use Rattle.rules.specs.Events.{refusals}
 use Rattle.tables.specs.Tables.{world}
 use Rattle.effects.specs.Ready.{Granted}
 use Rattle.tables.proofs.Sound.{sound-tables, room}
-use Rattle.rules.proofs.Rows.{Clear}
 use Rattle.rules.proofs.Passed.{clear-passed, caller-below, uaddr2-inside}
 
 -- what a call that is not refused hands on

@@ -2,8 +2,8 @@
 use mathlib.Core.Path.{_≡_, refl, sym, ap, _∙_}
 use mathlib.Core.Bool.{Bool, true, false, not, cond, _&&_, _||_, or-true}
 use mathlib.Core.List.{List}
-use Prim.Native.Nat.{ℕ, _+_, _*_, _^_, _≤_, _<_}
-use native.Mathlib.Nat.{pow-suc}
+use Prim.Native.Nat.{ℕ, zero, suc, _+_, _*_, _^_, _≤_, _<_}
+use native.Mathlib.Nat.{pow-suc, one-mul, zero-mul}
 use native.Mathlib.Omega.{arith}
 use native.Mathlib.Numerals.{add-one}
 use lib.Pow.{pow-mono}
@@ -73,6 +73,13 @@ interrupt-words t w = cases (threadOf (w .state) t .waiting) (λ e. rw e) (λ e.
 -- one bit more
 bitsBelow-next : (n : ℕ) (f : ℕ → Bool) → bitsBelow (n + 1) f ≡ bitsBelow n f + bit (f n) * 2 ^ n
 bitsBelow-next n f = rw (add-one n) (unfold bitsBelow in refl)
+
+pub bits-small : (n : ℕ) (f : ℕ → Bool) → bitsBelow n f < 2 ^ n
+unfolding bitsBelow
+bits-small zero f = omega arith
+bits-small (suc n) f =
+    let one : bit (f n) * 2 ^ n ≤ 2 ^ n = cases (f n) (λ e. rw (e, one-mul (2 ^ n)) (omega arith)) (λ e. rw (e, zero-mul (2 ^ n)) (omega arith)) in
+    rw (pow-suc 2 n) (omega (arith, bits-small n f, one))
 
 -- A loop that sets a bit for each thread of a process has set those below i.
 pub record Bits (waits : ℕ → Bool) (bits one i : ℕ) : Type 0 where

@@ -13,7 +13,8 @@ use Rattle.rules.specs.Answers.{Outcome, first, answered}
 use Rattle.rules.specs.Events.{refusals, effect}
 use Rattle.tables.specs.Tables.{world}
 use Rattle.kernel.specs.Follows.{Follows}
-use Rattle.rules.proofs.Rows.{Clear, pass-clear, step-refused, step-passed}
+use Rattle.rules.specs.Claims.{Clear}
+use Rattle.rules.proofs.Rows.{pass-clear, step-refused, step-passed}
 
 module _ (e : Event) (s : State) (ws : List ℕ) (v : Verdict) (tested : v ≡ first (refusals e (world s ws))) where
   -- no row applies to an event that is let through

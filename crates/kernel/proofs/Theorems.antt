@@ -1,6 +1,5 @@
 -- Demand 3 of the code: it holds of every run of `event::apply`, by that function's contract alone.
 use mathlib.Core.Path.{_≡_, refl, sym, ap, _∙_, subst₂}
-use mathlib.Core.Bool.{cond}
 use mathlib.Core.List.{List, _∷_}
 use Prim.Native.Nat.{ℕ, _<_}
 use lib.ListN.{length}
@@ -11,10 +10,10 @@ use Rattle.rules.specs.declared.answer.Answered.{Answered}
 use Rattle.tables.specs.Sizes.{bytesPerProcess, memoryWords}
 use Rattle.tables.specs.Tables.{world, wordAt, fresh}
 use Rattle.rules.specs.Events.{step}
-use Rattle.rules.specs.History.{start, final, belongs, strike, answersTo}
+use Rattle.rules.specs.History.{start, final, answers, keptFor, entriesOf}
 use Rattle.rules.specs.Claims.{Alike}
 use Rattle.kernel.specs.Follows.{Follows}
-use Rattle.kernel.specs.Runs.{Runs, over, next, answersOf}
+use Rattle.kernel.specs.Runs.{Runs, over, next}
 use Rattle.rules.proofs.Theorems.{isolation}
 
 -- one event of the code leaves the world that the rules say
@@ -24,29 +23,28 @@ left {r = r} h =
     λ i. record { state = sym state i; words = sym (h .words) i }
 
 -- A run leaves what the rules say of its history,
-pub run-leaves : {h : List Event} {s t : State} {ws us : List ℕ} {answers : List Answer} → Runs h s ws answers t us → final h (world s ws) ≡ world t us
+pub run-leaves : {h : List Event} {s t : State} {ws us : List ℕ} {as′ : List Answer} → Runs h s ws as′ t us → final h (world s ws) ≡ world t us
 run-leaves over = refl
 run-leaves (next {es = es} f run) = ap (final es) (left f) ∙ run-leaves run
 
--- and answers what the rules answer.
-pub run-answers : (p : ℕ) {h : List Event} {s t : State} {ws us : List ℕ} {answers : List Answer} → Runs h s ws answers t us
-    → answersOf p h answers ≡ answersTo p h (world s ws)
-run-answers p over = refl
-run-answers p (next {e = e} {es = es} {s = s} {ws = ws} f run) =
+-- and answers each of its events what the rules answer.
+pub run-answers : {h : List Event} {s t : State} {ws us : List ℕ} {as′ : List Answer} → Runs h s ws as′ t us → as′ ≡ answers h (world s ws)
+run-answers over = refl
+run-answers (next {es = es} f run) =
     let first = ap (λ (a : Answered). a .answer) (f .result) in
-    let rest = run-answers p run ∙ sym (ap (answersTo p es) (left f)) in
-    λ i. cond (belongs p e) (first i ∷ rest i) (rest i)
+    let rest = run-answers run ∙ sym (ap (answers es) (left f)) in
+    λ i. first i ∷ rest i
 
 -- Demand 3: take any process and any two runs from the fresh state over full-length memory with equal words for that process. If
 -- equal histories are left when the events that name another process are struck, the process's events got the same answers in the
 -- same order, and its words, records and order of sleepers are the same at the end.
 pub code-isolation : (p : ℕ) (us vs : List ℕ) → length us ≡ memoryWords → length vs ≡ memoryWords
     → ((a : ℕ) → a < bytesPerProcess → wordAt (start us) p a ≡ wordAt (start vs) p a)
-    → {g h : List Event} → strike p g ≡ strike p h
+    → {g h : List Event} → keptFor p g ≡ keptFor p h
     → {as′ bs : List Answer} {s t : State} {ws xs : List ℕ} → Runs g fresh us as′ s ws → Runs h fresh vs bs t xs
-    → (answersOf p g as′ ≡ answersOf p h bs) × Alike p (world s ws) (world t xs)
+    → (entriesOf p g as′ ≡ entriesOf p h bs) × Alike p (world s ws) (world t xs)
 code-isolation p us vs lu lv words {g} {h} e run other =
     let same = isolation p us vs lu lv words g h e in (
-      run-answers p run ∙ same .0 ∙ sym (run-answers p other),
+      ap (entriesOf p g) (run-answers run) ∙ same .0 ∙ sym (ap (entriesOf p h) (run-answers other)),
       subst₂ (Alike p) (run-leaves run) (run-leaves other) (same .1),
     )

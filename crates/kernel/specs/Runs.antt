@@ -1,13 +1,11 @@
 -- Runs of the code: each event is handed the tables and words that the one before it left, and all that is known of what it answers and
 -- leaves is the contract of `event::apply`.
-use mathlib.Core.Bool.{cond}
 use mathlib.Core.List.{List, [], _∷_}
 use Prim.Native.Nat.{ℕ}
 use Rattle.tables.specs.declared.State.{State}
 use Rattle.rules.specs.declared.event.Event.{Event}
 use Rattle.rules.specs.declared.answer.Answer.{Answer}
 use Rattle.rules.specs.declared.answer.Answered.{Answered}
-use Rattle.rules.specs.History.{belongs}
 use Rattle.kernel.specs.Follows.{Follows}
 
 -- From the tables s and the words ws the history is answered so, event by event, and leaves these tables and words.
@@ -15,9 +13,3 @@ pub data Runs : List Event → State → List ℕ → List Answer → State → 
   over : {s : State} {ws : List ℕ} → Runs [] s ws [] s ws
   next : {e : Event} {es : List Event} {s t : State} {ws after us : List ℕ} {r : Answered} {answers : List Answer}
       → Follows e s ws r after → Runs es (r .state) after answers t us → Runs (e ∷ es) s ws (r .answer ∷ answers) t us
-
--- the answers that the process's events got, in order
-abbrev pub answersOf : ℕ → List Event → List Answer → List Answer
-answersOf p [] as′ = []
-answersOf p (e ∷ es) [] = []
-answersOf p (e ∷ es) (a ∷ as′) = cond (belongs p e) (a ∷ answersOf p es as′) (answersOf p es as′)

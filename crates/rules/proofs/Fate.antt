@@ -24,8 +24,8 @@ use Rattle.rules.specs.Answers.{Outcome}
 use Rattle.rules.specs.Commands.{commandOf, isUnknown}
 use Rattle.rules.specs.Calls.{caller, wait, wake, requeue, wakeOp, callEffect}
 use Rattle.rules.specs.Events.{refusals, effect, step, clockEffect, interruptEffect}
-use Rattle.rules.specs.Claims.{wokenBy, movedBy, sleepsBy, Fate, stays, sleeps, wakes, moves, timesOut, isInterrupted}
-use Rattle.rules.proofs.Rows.{Clear, clear-pass, verdicts, step-refused, step-passed}
+use Rattle.rules.specs.Claims.{Clear, wokenBy, movedBy, sleepsBy, Fate, stays, sleeps, wakes, moves, timesOut, isInterrupted}
+use Rattle.rules.proofs.Rows.{clear-pass, verdicts, step-refused, step-passed}
 use Rattle.tables.proofs.Changes.{change-other, change-named}
 use Rattle.tables.proofs.Sound.{tables-sound}
 use Rattle.rules.proofs.Passed.{clear-passed, caller-below, sound-of}

@@ -14,7 +14,7 @@ use Rattle.tables.specs.Sizes.{wordsPerProcess, wordBytes, bytesPerProcess}
 use Rattle.tables.specs.Tables.{World, threadNumber, wordNumber, wordAt, threadOf, arrivals}
 use Rattle.rules.specs.Answers.{Outcome}
 use Rattle.rules.specs.Events.{step}
-use Rattle.rules.specs.History.{start, final, Named, process, nobody, named, isKept, isProcess, belongs, strike, answersTo}
+use Rattle.rules.specs.History.{start, final, Named, process, nobody, named, isKept, isProcess, belongs, keptFor, answersTo}
 use Rattle.rules.specs.Claims.{Alike}
 use Rattle.rules.proofs.Preserved.{Valid, step-valid}
 use Rattle.rules.proofs.View.{ownWord, viewState, view, own-thread, view-own, view-arrivals, view-word}
@@ -50,13 +50,13 @@ module _ (p : ℕ) where
   own-kept nobody n = refl
 
   -- a history, and what is left of it, on the view
-  pub final-view : (h : List Event) (w : World) → Valid w → view p (final h w) ≡ final (strike p h) (view p w)
+  pub final-view : (h : List Event) (w : World) → Valid w → view p (final h w) ≡ final (keptFor p h) (view p w)
   final-view [] w g = refl
   final-view (e ∷ es) w g =
       let ih = final-view es (step e w .world) (step-valid e w g) in
       cases (isKept p (named e)) (λ k. cc (kept-step e w g k)) (λ k. cc (struck-step e w k))
 
-  pub answers-view : (h : List Event) (w : World) → Valid w → answersTo p h w ≡ answersTo p (strike p h) (view p w)
+  pub answers-view : (h : List Event) (w : World) → Valid w → answersTo p h w ≡ answersTo p (keptFor p h) (view p w)
   answers-view [] w g = refl
   answers-view (e ∷ es) w g =
       let ih = answers-view es (step e w .world) (step-valid e w g) in

@@ -21,7 +21,8 @@ use Rattle.rules.specs.Commands.{commandOf, uses}
 use Rattle.rules.specs.Calls.{caller, released, moved, releasedSecond, wait, wake, requeue, wakeOp, callEffect}
 use Rattle.rules.specs.Events.{refusals, interruptEffect, effect, step}
 use Rattle.rules.specs.History.{process, named}
-use Rattle.rules.proofs.Rows.{Clear, verdicts, step-refused, step-passed, clear-pass}
+use Rattle.rules.specs.Claims.{Clear}
+use Rattle.rules.proofs.Rows.{verdicts, step-refused, step-passed, clear-pass}
 use Rattle.rules.proofs.Passed.{Passed, clear-passed, thread-index, uaddr2-inside}
 use Rattle.rules.proofs.View.{ownThread, viewState, view, own-thread, other-thread, view-end, view-move, view-sleep-other, view-write-other, end-none, move-none}
 use Rattle.rules.proofs.Own.{released-own, moved-own, second-own}

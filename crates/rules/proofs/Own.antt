@@ -26,7 +26,8 @@ use Rattle.rules.specs.Commands.{commandOf, uses}
 use Rattle.rules.specs.WakeOp.{newWord}
 use Rattle.rules.specs.Calls.{wrongMemory, noThread, caller, secondCap, matches, candidates, released, moved, releasedSecond, wait, wake, requeue, wakeOp, callEffect, callRefusals, callRows, full}
 use Rattle.rules.specs.Events.{refusals, clockEffect, interruptEffect, bitsBelow, waitingSet, panel, effect, step}
-use Rattle.rules.proofs.Rows.{Same, Clear, same-first, clear-pass, verdicts, step-refused, step-passed}
+use Rattle.rules.specs.Claims.{Clear}
+use Rattle.rules.proofs.Rows.{Same, same-first, clear-pass, verdicts, step-refused, step-passed}
 use Rattle.tables.proofs.Sound.{room}
 use Rattle.rules.proofs.Preserved.{Valid}
 use Rattle.rules.proofs.Passed.{Passed, clear-passed, caller-below, memory-right, sound-right, thread-process, thread-index, uaddr-inside, uaddr2-inside}

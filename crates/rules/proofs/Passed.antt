@@ -1,3 +1,4 @@
+use Rattle.rules.specs.Claims.{Clear}
 -- A call that no row of the table of answers refuses: what is then known of it.
 use mathlib.Core.Path.{_≡_, ap}
 use mathlib.Core.Bool.{Bool, true, false, not, _&&_, _||_}
@@ -14,7 +15,6 @@ use Rattle.tables.specs.Tables.{outside, World, threadOf, wordAt, aligned, tabl
 use Rattle.rules.specs.Commands.{commandOf, notImplemented, isUnknown, bitSet, clockBit, uses}
 use Rattle.rules.specs.WakeOp.{undefinedOp}
 use Rattle.rules.specs.Calls.{wrongMemory, noProcess, noThread, caller, secondCap, badArgument, badAddress, isWakeOp, differs, late, callRefusals, callRows}
-use Rattle.rules.proofs.Rows.{Clear}
 use Rattle.tables.proofs.Sound.{Sound, tables-sound, sound-tables, room}
 
 pub record Passed (k : Command) (c : Call) (w : World) : Type 0 where

@@ -21,7 +21,8 @@ use Rattle.rules.specs.Commands.{commandOf, uses}
 use Rattle.rules.specs.Calls.{caller, timeoutGiven, deadlineOf, maskOf, released, moved, wait, wake, requeue, wakeOp, callEffect}
 use Rattle.rules.specs.Events.{refusals, clockEffect, interruptEffect, effect, step}
 use Rattle.rules.specs.History.{start, final}
-use Rattle.rules.proofs.Rows.{Clear, verdicts, step-refused, step-passed, clear-pass}
+use Rattle.rules.specs.Claims.{Clear}
+use Rattle.rules.proofs.Rows.{verdicts, step-refused, step-passed, clear-pass}
 use Rattle.tables.proofs.Changes.{arrivals-end}
 use Rattle.tables.proofs.Sound.{Sound, fresh-sound}
 use Rattle.tables.proofs.Kept.{below-ok, sound-end, sound-move, sound-sleep, sound-clock}

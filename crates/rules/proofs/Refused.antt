@@ -16,7 +16,8 @@ use Rattle.rules.specs.Answers.{first}
 use Rattle.rules.specs.Commands.{commandOf, isUnknown}
 use Rattle.rules.specs.Calls.{wait, wake, requeue, wakeOp, callEffect}
 use Rattle.rules.specs.Events.{refusals, clockEffect, interruptEffect, effect, step}
-use Rattle.rules.proofs.Rows.{Clear, clear-pass, verdicts, step-refused, step-passed}
+use Rattle.rules.specs.Claims.{Clear}
+use Rattle.rules.proofs.Rows.{clear-pass, verdicts, step-refused, step-passed}
 use Rattle.rules.proofs.Passed.{clear-passed}
 
 -- an answer that refuses

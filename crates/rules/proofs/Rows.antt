@@ -13,12 +13,7 @@ use Rattle.rules.specs.declared.event.Event.{Event}
 use Rattle.tables.specs.Tables.{World}
 use Rattle.rules.specs.Answers.{Row, first, outcome, judged}
 use Rattle.rules.specs.Events.{refusals, effect, step}
-use Rattle.rules.specs.Claims.{FirstOf, here, later}
-
--- no row applies
-abbrev pub Clear : List Row → Type 0
-Clear [] = Unit {0}
-Clear (r ∷ rs) = (r .applies ≡ false) × Clear rs
+use Rattle.rules.specs.Claims.{FirstOf, here, later, Clear}
 
 pub not-pass {ℓ} : {P : Type ℓ} {x : Errno} → Refuse x ≡ Pass → P
 not-pass e = let z : _≡_ {A = ℕ} 0 1 = cc in absurd (omega arith)

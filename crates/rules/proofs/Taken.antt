@@ -5,11 +5,11 @@ use mathlib.Core.List.{List, [], _∷_, _++_, append-nil}
 use Prim.Native.Nat.{ℕ, _+_, _≤_, _<_}
 use native.Mathlib.Omega.{arith}
 use lib.ListN.{length, length-append}
-use lib.Dec.{eqb}
+use lib.Dec.{eqb, leb}
 use borrow.Author.Tests.{eqb-true}
 use Rattle.lists.specs.Lists.{elem, bit, countBelow}
-use Rattle.lists.proofs.Tests.{cases, clash, never}
-use Rattle.lists.proofs.Occurs.{occurs, bit-true, elem-occurs, absent-occurs, occurs-absent, occurs-append, occurs-without, occurs-taken-out, occurs-filter-le, elem-all}
+use Rattle.lists.proofs.Tests.{cases, clash, never, and-left}
+use Rattle.lists.proofs.Occurs.{occurs, bit-true, elem-occurs, absent-occurs, occurs-absent, occurs-append, occurs-without, occurs-taken-out, occurs-filter-le, elem-all, elem-filter}
 use Rattle.tables.specs.declared.State.{State}
 use Rattle.tables.specs.declared.LastAnswer.{LastAnswer}
 use Rattle.tables.specs.declared.LastAnswer.the-variants.{Woken, TimedOut, Interrupted}
@@ -25,9 +25,9 @@ use Rattle.rules.specs.Answers.{Outcome}
 use Rattle.rules.specs.Commands.{commandOf, uses}
 use Rattle.rules.specs.Calls.{matches, released, moved, releasedSecond, wait, wake, requeue, wakeOp, callEffect}
 use Rattle.rules.specs.Events.{refusals, effect, step, clockEffect, interruptEffect}
-use Rattle.rules.specs.Claims.{Took, Takes, woke, shifted, wokenCount, shiftedCount, countsMoves}
-use Rattle.rules.proofs.Rows.{Clear, clear-pass, verdicts, step-refused, step-passed}
-use Rattle.tables.proofs.Sound.{Sound, waiting-below, once}
+use Rattle.rules.specs.Claims.{Clear, Took, Takes, woke, shifted, wokenCount, shiftedCount, countsMoves}
+use Rattle.rules.proofs.Rows.{clear-pass, verdicts, step-refused, step-passed}
+use Rattle.tables.proofs.Sound.{Sound, waiting-below, once, listed-waiting}
 use Rattle.rules.proofs.Passed.{Passed, clear-passed, sound-of, addresses-apart}
 use Rattle.rules.proofs.Chosen.{candidate-at, moved-pass, atFirst, parts-listed, second-listed}
 use Rattle.rules.proofs.Took.{took-none, took-end, took-move, took-clock, count-woke, count-shifted}
@@ -121,6 +121,29 @@ takes-first c w n h =
     let done = counted-done (CallEvent c) w n h in
     let g = clear-passed c w (counted-clear (CallEvent c) w n h) in
     rw done (effect-takes (commandOf (c .op)) c w n (g .sound) (ap (λ (o : Outcome). o .answer) (sym done) ∙ h))
+
+-- The clock ends every sleep whose deadline it reaches, an interrupt that of the thread it names, and neither ends another.
+pub clock-ends : (now : ℕ) (w : World) (n : ℕ) → step (Clock now) w .answer ≡ Count n
+    → Took TimedOut (expiredSleepers now (w .state)) [] 0 (w .state) (step (Clock now) w .world .state)
+unfolding refusals effect clockEffect
+clock-ends now w n h =
+    rw (counted-done (Clock now) w n h) (took-expired now (w .state) (sound-of w (counted-clear (Clock now) w n h .1 .0)))
+
+pub expired-all : (now : ℕ) (w : World) (n : ℕ) → step (Clock now) w .answer ≡ Count n
+    → (t : ℕ) → expired now (threadOf (w .state) t) ≡ true → elem t (expiredSleepers now (w .state)) ≡ true
+unfolding refusals expiredSleepers
+expired-all now w n h t e =
+    let g = sound-of w (counted-clear (Clock now) w n h .1 .0) in
+    let r = threadOf (w .state) t in
+    elem-filter (λ t. expired now (threadOf (w .state) t)) t (arrivals (w .state)) e
+    ∙ listed-waiting (w .state) g t
+    ∙ and-left (r .waiting) (r .timed) (and-left (r .waiting && r .timed) (leb (r .deadline) now) e)
+
+pub interrupt-ends : (p i : ℕ) (w : World) (n : ℕ) → step (Interrupt p i) w .answer ≡ Count n → threadOf (w .state) (threadNumber p i) .waiting ≡ true
+    → Took Interrupted (threadNumber p i ∷ []) [] 0 (w .state) (step (Interrupt p i) w .world .state)
+unfolding refusals effect interruptEffect
+interrupt-ends p i w n h e =
+    rw (counted-done (Interrupt p i) w n h, e) (took-interrupted (threadNumber p i) (w .state) (sound-of w (counted-clear (Interrupt p i) w n h .1 .0)) e)
 
 -- The count.
 

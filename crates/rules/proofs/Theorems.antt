@@ -1,32 +1,34 @@
 -- What is proved of the rules, demand by demand. Each theorem is stated here whole and cites its proof; specs/Claims.antt has the
 -- words that the statements use.
 use mathlib.Core.Path.{_≡_, refl, sym, ap, _∙_}
-use mathlib.Core.Bool.{true, cond}
-use mathlib.Core.List.{List, map}
-use mathlib.Core.Logic.{_⊎_, _↔_}
+use mathlib.Core.Bool.{true, false, cond}
+use mathlib.Core.List.{List, [], _∷_, map}
+use mathlib.Core.Logic.{_⊎_, inl, inr, _↔_}
 use Prim.Native.Nat.{ℕ, _+_, _≤_, _<_}
 use lib.ListN.{length, take, drop}
-use Rattle.lists.specs.Lists.{filter}
+use Rattle.lists.specs.Lists.{filter, without}
 use Rattle.lists.proofs.Tests.{by-cases, clash}
 use Rattle.tables.specs.declared.State.{State}
+use Rattle.tables.specs.declared.LastAnswer.the-variants.{TimedOut, Interrupted}
 use Rattle.rules.specs.declared.event.Command.{Command}
 use Rattle.rules.specs.declared.event.Command.the-variants.{Wake}
 use Rattle.rules.specs.declared.event.Call.{Call}
 use Rattle.rules.specs.declared.event.Event.{Event}
-use Rattle.rules.specs.declared.event.Event.the-variants.{Call as CallEvent}
+use Rattle.rules.specs.declared.event.Event.the-variants.{Call as CallEvent, Clock, Interrupt}
 use Rattle.rules.specs.declared.answer.Errno.{Errno}
-use Rattle.rules.specs.declared.answer.Answer.{Answer}
 use Rattle.rules.specs.declared.answer.Answer.the-variants.{Asleep, Count, Refused}
 use Rattle.tables.specs.Sizes.{bytesPerProcess, memoryWords}
-use Rattle.tables.specs.Tables.{World, processOf, wordAt, threadOf, queue, tablesOk, withState, fallAsleep}
+use Rattle.tables.specs.Tables.{World, threadNumber, processOf, wordAt, running, threadOf, queue, expired, expiredSleepers, tablesOk, withState, fallAsleep}
+use Rattle.rules.specs.Answers.{outcome}
 use Rattle.rules.specs.Commands.{commandOf}
-use Rattle.rules.specs.Calls.{caller, secondCap, matches, candidates, released, moved}
-use Rattle.rules.specs.Events.{refusals, step}
-use Rattle.rules.specs.History.{start, final, strike, answersTo}
-use Rattle.rules.specs.Claims.{FirstOf, Sleeps, sleepsBy, Takes, wokenCount, shiftedCount, countsMoves, NamedAlike, Fate, asleepThere, sleptThrough, Since, Alike}
-use Rattle.rules.proofs.Rows.{first-of, of-first, step-refused}
+use Rattle.rules.specs.WakeOp.{compares}
+use Rattle.rules.specs.Calls.{caller, secondCap, matches, candidates, released, moved, releasedSecond}
+use Rattle.rules.specs.Events.{refusals, effect, step}
+use Rattle.rules.specs.History.{start, final, keptFor, answersTo}
+use Rattle.rules.specs.Claims.{FirstOf, Clear, Sleeps, sleepsBy, Took, Takes, wokenCount, shiftedCount, countsMoves, NamedAlike, Fate, asleepThere, sleptThrough, Since, Alike}
+use Rattle.rules.proofs.Rows.{first-of, of-first, clear-pass, verdicts, step-refused, step-passed}
 use Rattle.rules.proofs.Cases.{twelve, given, as-document-01-says}
-use Rattle.tables.proofs.Sound.{tables-sound, sound-tables}
+use Rattle.tables.proofs.Sound.{tables-sound, sound-tables, none-overdue}
 use Rattle.rules.proofs.Refused.{refused-row}
 use Rattle.rules.proofs.Preserved.{step-valid, final-valid, start-valid}
 use Rattle.rules.proofs.Sleeps as Sleeps′
@@ -38,9 +40,13 @@ use Rattle.rules.proofs.Isolation.{answers-view, final-view, start-alik
 
 -- Demand 1, for every event, any tables and words of any length.
 
--- "Every call, store, clock event, interrupt, query .. is answered", by exactly one answer.
-pub one-answer : (e : Event) (w : World) → (a : Answer) × (step e w .answer ≡ a) × ((b : Answer) → step e w .answer ≡ b → b ≡ a)
-one-answer e w = (step e w .answer, refl, λ b h. sym h)
+-- "Every call, store, clock event, interrupt, query .. is answered": it is refused by the first row that applies and changes nothing,
+-- or no row applies and it does what its rule says.
+pub refused-or-done : (e : Event) (w : World)
+    → ((x : Errno) × FirstOf x (refusals e w) × (step e w ≡ outcome (Refused x) w)) ⊎ (Clear (refusals e w) × (step e w ≡ effect e w))
+refused-or-done e w = verdicts e w
+    (λ x h. inl (x, first-of x (refusals e w) h, step-refused e w x h))
+    (λ h. inr (h, step-passed e w (clear-pass (refusals e w) h)))
 
 -- "A refusal gives the one answer that document 01 fixes": that of the first row that applies, exactly when there is one.
 pub refused-exactly : (e : Event) (w : World) (x : Errno) → (step e w .answer ≡ Refused x) ↔ FirstOf x (refusals e w)
@@ -81,6 +87,15 @@ pub moved-next : (k : Command) (c : Call) (s : State)
 unfolding moved candidates
 moved-next k c s = refl
 
+-- WAKE_OP's second word: "if old compares true with cmparg, the first of those still asleep at uaddr2, up to the second cap"
+pub released-second : (k : Command) (c : Call) (w : World)
+    → releasedSecond k c w
+    ≡ cond (compares (c .val3) (wordAt w (c .process) (c .uaddr2)))
+    (take (secondCap c) (without (released k c (w .state)) (filter (λ t. matches k c (threadOf (w .state) t)) (queue (c .process) (c .uaddr2) (w .state)))))
+    []
+unfolding releasedSecond candidates
+released-second k c w = refl
+
 -- Those run, or move with mask and deadline kept; every other record and the order of every other entry are as they were.
 pub takes-first : (c : Call) (w : World) (n : ℕ) → step (CallEvent c) w .answer ≡ Count n
     → Takes (commandOf (c .op)) c w (step (CallEvent c) w .world)
@@ -96,6 +111,28 @@ counted = Taken.counted
 pub count-local : (c : Call) (w v : World) (m n : ℕ) → NamedAlike (commandOf (c .op)) c w v
     → step (CallEvent c) w .answer ≡ Count m → step (CallEvent c) v .answer ≡ Count n → m ≡ n
 count-local = Local.count-local
+
+-- Demand 2, the clock and interrupts.
+
+-- "every sleeper whose deadline is at or below it ends with -110"
+pub deadline-ends : (now : ℕ) (w : World) (n : ℕ) → step (Clock now) w .answer ≡ Count n
+    → (t : ℕ) → expired now (threadOf (w .state) t) ≡ true → threadOf (step (Clock now) w .world .state) t ≡ running TimedOut
+deadline-ends now w n h t e = Taken.clock-ends now w n h .ran t (Taken.expired-all now w n h t e)
+
+-- These leave the list, and every other record and the order of every other entry are as they were.
+pub clock-ends : (now : ℕ) (w : World) (n : ℕ) → step (Clock now) w .answer ≡ Count n
+    → Took TimedOut (expiredSleepers now (w .state)) [] 0 (w .state) (step (Clock now) w .world .state)
+clock-ends = Taken.clock-ends
+
+-- "a sleeper ends with -4", and nobody else
+pub interrupt-ends : (p i : ℕ) (w : World) (n : ℕ) → step (Interrupt p i) w .answer ≡ Count n → threadOf (w .state) (threadNumber p i) .waiting ≡ true
+    → Took Interrupted (threadNumber p i ∷ []) [] 0 (w .state) (step (Interrupt p i) w .world .state)
+interrupt-ends = Taken.interrupt-ends
+
+-- Whatever the processes did, no thread is asleep whose deadline the clock has reached.
+pub no-overdue-sleeper : (words : List ℕ) → length words ≡ memoryWords → (h : List Event)
+    → (t : ℕ) → expired (final h (start words) .state .clock) (threadOf (final h (start words) .state) t) ≡ false
+no-overdue-sleeper words n h = none-overdue _ (final-valid h (start words) (start-valid words n) .sound)
 
 -- No lost wake.
 
@@ -134,7 +171,7 @@ twelve-cases = as-document-01-says
 
 -- The tables.
 
--- An event keeps the table rules, from any tables that keep them.
+-- An event keeps the table rules, from any tables that keep them over full-length memory.
 pub rules-kept : (e : Event) (w : World) → length (w .words) ≡ memoryWords → tablesOk (w .state) ≡ true
     → tablesOk (step e w .world .state) ≡ true
 rules-kept e w n h =
@@ -153,7 +190,7 @@ rules-kept-always words n h =
 -- order .. At the end its words, its thread records and the order of its sleepers are the same too."
 pub isolation : (p : ℕ) (us vs : List ℕ) → length us ≡ memoryWords → length vs ≡ memoryWords
     → ((a : ℕ) → a < bytesPerProcess → wordAt (start us) p a ≡ wordAt (start vs) p a)
-    → (g h : List Event) → strike p g ≡ strike p h
+    → (g h : List Event) → keptFor p g ≡ keptFor p h
     → (answersTo p g (start us) ≡ answersTo p h (start vs)) × Alike p (final g (start us)) (final h (start vs))
 isolation p us vs lu lv words g h e =
     let same = start-alike p us vs (lu ∙ sym lv) words in

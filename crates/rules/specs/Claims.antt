@@ -31,6 +31,11 @@ pub data FirstOf (x : Errno) : List Row → Type 0 where
   here : {r : Row} {rs : List Row} → r .applies ≡ true → r .errno ≡ x → FirstOf x (r ∷ rs)
   later : {r : Row} {rs : List Row} → r .applies ≡ false → FirstOf x rs → FirstOf x (r ∷ rs)
 
+-- no row applies
+abbrev pub Clear : List Row → Type 0
+Clear [] = Unit {0}
+Clear (r ∷ rs) = (r .applies ≡ false) × Clear rs
+
 -- Waits: WAIT or WAIT_BITSET.
 abbrev pub IsWait : Command → Type 0
 IsWait k = (k ≡ Wait) ⊎ (k ≡ WaitBitset)

@@ -19,6 +19,11 @@ abbrev pub final : List Event → World → World
 final [] w = w
 final (e ∷ es) w = final es (step e w .world)
 
+-- what every event of it is answered, in order
+abbrev pub answers : List Event → World → List Answer
+answers [] w = []
+answers (e ∷ es) w = step e w .answer ∷ answers es (step e w .world)
+
 -- Whose event it is: the process that it names, if any.
 pub data Named : Type 0 where
   process : ℕ → Named
@@ -46,11 +51,15 @@ abbrev pub belongs : ℕ → Event → Bool
 belongs p e = isProcess p (named e)
 
 -- "Strike .. the events that name another process."
-abbrev pub strike : ℕ → List Event → List Event
-strike p h = filter (λ e. isKept p (named e)) h
+abbrev pub keptFor : ℕ → List Event → List Event
+keptFor p h = filter (λ e. isKept p (named e)) h
+
+-- of a list with an entry for each event, those of the process's events
+abbrev pub entriesOf : {A : Type 0} → ℕ → List Event → List A → List A
+entriesOf p [] l = []
+entriesOf p (e ∷ es) [] = []
+entriesOf p (e ∷ es) (x ∷ l) = cond (belongs p e) (x ∷ entriesOf p es l) (entriesOf p es l)
 
 -- the answers that the process's events got, in order
 abbrev pub answersTo : ℕ → List Event → World → List Answer
-answersTo p [] w = []
-answersTo p (e ∷ es) w =
-    cond (belongs p e) (step e w .answer ∷ answersTo p es (step e w .world)) (answersTo p es (step e w .world))
+answersTo p h w = entriesOf p h (answers h w)

@@ -1,13 +1,13 @@
--- The table rules as facts: tables pass the test exactly when the facts hold, the fresh tables have them, and each change keeps them.
+-- The table rules as facts: tables pass the test exactly when the facts hold, and the fresh tables have them.
 use mathlib.Core.Path.{_≡_, refl, sym, ap, _∙_}
-use mathlib.Core.Bool.{true, false, _&&_, Bool·beq}
+use mathlib.Core.Bool.{true, false, not, _&&_, Bool·beq}
 use mathlib.Core.List.{List, _∷_, _++_}
 use Prim.Native.Nat.{ℕ, _-_, _≤_, _<_}
 use native.Mathlib.Omega.{arith}
 use lib.ListN.{length, drop, replicate, length-append, length-replicate, length-take, length-drop, take-append-drop, List·getD-eq-default}
 use lib.Seq.{drop-append-seam}
 use lib.Dec.{eqb, ltb}
-use borrow.Author.Tests.{eqb-true, eq-eqb, leb-true, le-leb, ltb-true, ltb-false, lt-ltb}
+use borrow.Author.Tests.{eqb-true, eq-eqb, leb-true, le-leb, ltb-true, ltb-false, lt-ltb, lt-leb}
 use Rattle.lists.specs.Lists.{all, padTo, elem, distinct, bit}
 use Rattle.lists.proofs.Tests.{cases, clash, and-intro, and-left, and-right, beq-true, eq-beq}
 use Rattle.lists.proofs.Filter.{all-getD, getD-all, all-replicate, replicate-all, getD-replicated}
@@ -17,8 +17,8 @@ use Rattle.tables.specs.declared.State.{State}
 use Rattle.tables.specs.declared.Thread.{Thread}
 use Rattle.tables.specs.declared.LastAnswer.{LastAnswer}
 use Rattle.tables.specs.declared.LastAnswer.the-variants.{NoneYet}
-use Rattle.tables.specs.Sizes.{threads, noEntry}
-use Rattle.tables.specs.Tables.{running, threadOf, arrivals, recordOk, sizesOk, countOk, numbersOk, exactOk, tailOk, recordsOk, tablesOk, fresh}
+use Rattle.tables.specs.Sizes.{threads, bytesPerProcess, noEntry}
+use Rattle.tables.specs.Tables.{running, threadOf, arrivals, expired, aligned, recordOk, sizesOk, countOk, numbersOk, exactOk, tailOk, recordsOk, tablesOk, fresh}
 
 abbrev noThread : Thread
 noThread = running NoneYet
@@ -44,6 +44,18 @@ module _ (s : State) (g : Sound s) where
   pub listed-waiting : (t : ℕ) → elem t (arrivals s) ≡ threadOf s t .waiting
   listed-waiting t =
       bit-injective _ _ (sym (occurs-once t (arrivals s) (omega (arith, g .exact t, bit-le (threadOf s t .waiting)))) ∙ g .exact t)
+
+  -- a deadline that the clock has reached belongs to nobody asleep
+  pub none-overdue : (t : ℕ) → expired (s .clock) (threadOf s t) ≡ false
+  unfolding recordOk
+  none-overdue t =
+      let r = threadOf s t in
+      cases (r .waiting)
+      (λ w. cases (r .timed)
+      (λ d. let ok : (aligned (r .uaddr) && ltb (r .uaddr) bytesPerProcess && not (eqb (r .bitset) 0) && ltb (s .clock) (r .deadline)) ≡ true = cc (g .kept t) in
+      rw (w, d, lt-leb (r .deadline) (s .clock) (ltb-true (s .clock) (r .deadline) (and-right (aligned (r .uaddr) && ltb (r .uaddr) bytesPerProcess && not (eqb (r .bitset) 0)) (ltb (s .clock) (r .deadline)) ok))))
+      (λ d. rw (w, d)))
+      (λ w. rw w)
 
   pub once : (t : ℕ) → occurs t (arrivals s) ≤ 1
   once t = omega (arith, g .exact t, bit-le (threadOf s t .waiting))

@@ -1,6 +1,6 @@
 pub mod Steps
 pub mod Memory
-pub mod Lending
+pub mod FirstRows
 pub mod Waits
 pub mod Effects
 pub mod Laying

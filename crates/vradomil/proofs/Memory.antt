@@ -1,13 +1,16 @@
 -- Words that are read from bytes, and written there.
 use mathlib.Core.Path.{_≡_, sym, ap, _∙_}
 use mathlib.Core.List.{List}
-use Prim.Native.Nat.{ℕ, _*_, _^_, _<_}
+use Prim.Native.Nat.{ℕ, _*_, _^_, _≤_, _<_}
 use native.Mathlib.Omega.{arith}
-use lib.ListN.{length, getD, set}
+use lib.ListN.{length, getD, set, drop, length-drop, List·getD-eq-default}
+use lib.Dec.{ltb}
+use borrow.Author.Tests.{ltb-true, ltb-false}
 use lib.Seq.{sets, ext-getD}
 use Rattle.lists.specs.Lists.{tabulate}
 use Rattle.lists.specs.LittleEndian.{le, bytes, Bytes, numberAt}
-use Rattle.lists.proofs.LittleEndian.{le-bytes}
+use Rattle.lists.proofs.Tests.{cases}
+use Rattle.lists.proofs.LittleEndian.{le-bytes, le-below, bytes-drop}
 use Rattle.lists.proofs.Tabulate.{length-tabulate, getD-tabulate}
 use Rattle.tables.specs.Sizes.{wordBytes}
 use Rattle.layout.specs.Layout.{column, wordsOf, wordsBytes}
@@ -22,6 +25,16 @@ module _ (n : ℕ) (m : List ℕ) where
 
   pub words-length : length m ≡ wordBytes * n → length (wordsOf n m) ≡ n
   words-length size = ap length (words-read n m size) ∙ length-tabulate n (λ k. numberAt wordBytes (wordBytes * k) m)
+
+  pub word-fits : length m ≡ wordBytes * n → Bytes m → (i : ℕ) → getD (wordsOf n m) i 0 < 256 ^ wordBytes
+  word-fits size h i = cases (ltb i n)
+      (λ e.
+      let low = ltb-true i n e in
+      rw (word-read i size low)
+      (le-below wordBytes (drop (wordBytes * i) m) (omega (arith, size, length-drop (wordBytes * i) m)) (bytes-drop (wordBytes * i) m h)))
+      (λ e.
+      let out : length (wordsOf n m) ≤ i = omega (arith, words-length size, ltb-false i n e) in
+      rw (List·getD-eq-default (wordsOf n m) 0 out) (omega arith))
 
   pub word-written : (i v : ℕ) → length m ≡ wordBytes * n → Bytes m → i < n
       → sets m (wordBytes * i) (bytes wordBytes v) ≡ wordsBytes (set (wordsOf n m) i v)

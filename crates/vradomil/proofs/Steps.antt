@@ -29,7 +29,7 @@ use Rattle.tables.specs.Tables.{World, world, threadOf, wordAt, aligned, outsid
 use Rattle.layout.specs.Layout.{tablesBytes, stateAt, wordsAt, wordsBytes}
 use Rattle.layout.specs.Check.{Held}
 use Rattle.changes.specs.Change.{Stands, Took}
-use Rattle.vradomil.specs.Host.{seen, isRefused, tablesLeft, wordsLeft, Numbered, Ticks, Stores, Calls, Lent, Done, Leaves}
+use Rattle.vradomil.specs.Host.{seen, isRefused, tablesLeft, wordsLeft, Numbered, ChangesTables, ChangesWords, Calls, BuffersJudged, Done, Leaves}
 
 -- the tables that sound bytes stand for
 pub stands : (b : List ℕ) → Held b → Stands (stateAt b) b
@@ -64,15 +64,15 @@ module _ (p q : Bool) (x y : Errno) (rest : List Row) where
       by false true h = not-pass h
       by false false h = refl
 
-module _ (b m : List ℕ) (v : Verdict) (l : Lent b m v) (rest : List Row) where
+module _ (b m : List ℕ) (v : Verdict) (l : BuffersJudged b m v) (rest : List Row) where
   abbrev rows : List Row
   rows = ENXIO when wrongMemory (seen b m) ∷ EBADF when brokenTables (seen b m) ∷ rest
 
-  pub lent-refused : (z : Errno) → v ≡ Refuse z → first rows ≡ Refuse z
-  lent-refused z h = two-refused (wrongMemory (seen b m)) (brokenTables (seen b m)) ENXIO EBADF rest z (sym (l .verdict) ∙ h)
+  pub buffers-refused : (z : Errno) → v ≡ Refuse z → first rows ≡ Refuse z
+  buffers-refused z h = two-refused (wrongMemory (seen b m)) (brokenTables (seen b m)) ENXIO EBADF rest z (sym (l .verdict) ∙ h)
 
-  pub lent-passed : v ≡ Pass → first rows ≡ first rest
-  lent-passed h = two-passed (wrongMemory (seen b m)) (brokenTables (seen b m)) ENXIO EBADF rest (sym (l .verdict) ∙ h)
+  pub buffers-passed : v ≡ Pass → first rows ≡ first rest
+  buffers-passed h = two-passed (wrongMemory (seen b m)) (brokenTables (seen b m)) ENXIO EBADF rest (sym (l .verdict) ∙ h)
 
 -- the rows of an event behind the first two
 abbrev pub ownRows : Event → World → List Row
@@ -97,12 +97,12 @@ all-rows (Clock now) w h = refl
 all-rows (Interrupt p i) w h = refl
 all-rows (Query p) w h = clash true refl h
 
-module _ (e : Event) (b m : List ℕ) (v : Verdict) (l : Lent b m v) (some : isQuery e ≡ false) where
+module _ (e : Event) (b m : List ℕ) (v : Verdict) (l : BuffersJudged b m v) (some : isQuery e ≡ false) where
   pub event-refused : (x : Errno) → v ≡ Refuse x → first (refusals e (seen b m)) ≡ Refuse x
-  event-refused x h = ap first (all-rows e (seen b m) some) ∙ lent-refused b m v l (ownRows e (seen b m)) x h
+  event-refused x h = ap first (all-rows e (seen b m) some) ∙ buffers-refused b m v l (ownRows e (seen b m)) x h
 
   pub event-passed : v ≡ Pass → first (refusals e (seen b m)) ≡ first (ownRows e (seen b m))
-  event-passed h = ap first (all-rows e (seen b m) some) ∙ lent-passed b m v l (ownRows e (seen b m)) h
+  event-passed h = ap first (all-rows e (seen b m) some) ∙ buffers-passed b m v l (ownRows e (seen b m)) h
 
 -- a known command is not refused any more
 not-refused : (k : Command) (c : Call) (w : World) → isUnknown k ≡ false → isRefused (callEffect k c w .answer) ≡ false
@@ -132,11 +132,11 @@ module _ (e : Event) (b m : List ℕ) (r : ℤ) where
     pub number-refused : Numbered (step e (seen b m) .answer) r
     number-refused = n ∙ ap (λ (o : Outcome). answerNumbers (o .answer)) (sym (step-refused e (seen b m) x h))
 
-    pub ticks-refused : Ticks e b m r b
-    ticks-refused = record { number = number-refused; bytes = ap (λ (o : Outcome). tablesLeft o b) (sym (step-refused e (seen b m) x h)) }
+    pub changes-tables-refused : ChangesTables e b m r b
+    changes-tables-refused = record { number = number-refused; bytes = ap (λ (o : Outcome). tablesLeft o b) (sym (step-refused e (seen b m) x h)) }
 
-    pub stores-refused : Stores e b m r m
-    stores-refused = record { number = number-refused; bytes = ap (λ (o : Outcome). wordsLeft o m) (sym (step-refused e (seen b m) x h)) }
+    pub changes-words-refused : ChangesWords e b m r m
+    changes-words-refused = record { number = number-refused; bytes = ap (λ (o : Outcome). wordsLeft o m) (sym (step-refused e (seen b m) x h)) }
 
   module _ (h : first (refusals e (seen b m)) ≡ Pass) (done : isRefused (effect e (seen b m) .answer) ≡ false) (n : Numbered (effect e (seen b m) .answer) r) where
     pub number-passed : Numbered (step e (seen b m) .answer) r
@@ -149,9 +149,9 @@ module _ (e : Event) (b m : List ℕ) (r : ℤ) where
     words-passed after is = is ∙ sym (words-changed (effect e (seen b m)) m done) ∙ ap (λ (o : Outcome). wordsLeft o m) (sym (step-passed e (seen b m) h))
 
 -- an event that leaves the words, on tables that keep the rules
-pub ticks-done : (e : Event) (b m : List ℕ) (r : ℤ) (n : ℕ) (after : List ℕ) → Held b → first (refusals e (seen b m)) ≡ Pass
-    → isRefused (effect e (seen b m) .answer) ≡ false → r ≡ pos n → Leaves (effect e (world (stateAt b) (wordsAt m))) n after → Ticks e b m r after
-ticks-done e b m r n after held h taken is done =
+pub changes-tables-done : (e : Event) (b m : List ℕ) (r : ℤ) (n : ℕ) (after : List ℕ) → Held b → first (refusals e (seen b m)) ≡ Pass
+    → isRefused (effect e (seen b m) .answer) ≡ false → r ≡ pos n → Leaves (effect e (world (stateAt b) (wordsAt m))) n after → ChangesTables e b m r after
+changes-tables-done e b m r n after held h taken is done =
     let d = leaves-by _ _ n after (ap (λ (s : State). effect e (world s (wordsAt m))) (sym (held .tables))) done in
     let number = ap (λ z. z ∷ []) is ∙ d .number in
     record { number = number-passed e b m r h taken number; bytes = tables-passed e b m r h taken number after (d .bytes) }
@@ -162,8 +162,8 @@ module _ (c : Call) (b m : List ℕ) (r : ℤ) where
   calls-refused x h n =
       record {
         number = number-refused (CallEvent c) b m r x h n;
-        tables = ticks-refused (CallEvent c) b m r x h n .bytes;
-        words = stores-refused (CallEvent c) b m r x h n .bytes;
+        tables = changes-tables-refused (CallEvent c) b m r x h n .bytes;
+        words = changes-words-refused (CallEvent c) b m r x h n .bytes;
       }
 
   pub calls-passed : (n : ℕ) (bAfter mAfter : List ℕ) → Held b → isUnknown (commandOf (c .op)) ≡ false → first (refusals (CallEvent c) (seen b m)) ≡ Pass → r ≡ pos n

@@ -47,12 +47,12 @@ abbrev pub Numbered : Answer → ℤ → Type 0
 Numbered a r = r ∷ [] ≡ answerNumbers a
 
 -- An event that may change the tables, with words that are only read.
-pub record Ticks (e : Event) (tables words : List ℕ) (r : ℤ) (after : List ℕ) : Type 0 where
+pub record ChangesTables (e : Event) (tables words : List ℕ) (r : ℤ) (after : List ℕ) : Type 0 where
   pub number : Numbered (step e (seen tables words) .answer) r
   pub bytes : after ≡ tablesLeft (step e (seen tables words)) tables
 
 -- An event that may change a word, with tables that are only read.
-pub record Stores (e : Event) (tables words : List ℕ) (r : ℤ) (after : List ℕ) : Type 0 where
+pub record ChangesWords (e : Event) (tables words : List ℕ) (r : ℤ) (after : List ℕ) : Type 0 where
   pub number : Numbered (step e (seen tables words) .answer) r
   pub bytes : after ≡ wordsLeft (step e (seen tables words)) words
 
@@ -67,14 +67,14 @@ abbrev pub packed : Panel → ℕ
 packed v = v .waiting + 256 * v .count + 65536 * v .lowest
 
 -- fresh tables are laid down; of another length than the tables' they are refused as the tables would be
-pub record Laid (b : List ℕ) (r : ℤ) (after : List ℕ) : Type 0 where
+pub record Initialised (b : List ℕ) (r : ℤ) (after : List ℕ) : Type 0 where
   pub number : Numbered (cond (eqb (length b) tablesSize) (Count 0) (Refused EBADF)) r
   pub bytes : after ≡ cond (eqb (length b) tablesSize) (tablesBytes fresh) b
 
 -- What the functions inside tell each other.
 
 -- the first two rows of every event but the panel query, and what it means to pass them
-pub record Lent (tables words : List ℕ) (v : Verdict) : Type 0 where
+pub record BuffersJudged (tables words : List ℕ) (v : Verdict) : Type 0 where
   pub verdict : v ≡ first (ENXIO when wrongMemory (seen tables words) ∷ EBADF when brokenTables (seen tables words) ∷ [])
   pub held : v ≡ Pass → Held tables
   pub long : v ≡ Pass → length words ≡ memorySize

@@ -12,9 +12,9 @@ ghost use Rattle.effects.specs.Ready.{Granted};
 ghost use Rattle.layout.specs.Layout.{stateAt, wordsAt, wordsBytes, memorySize};
 ghost use Rattle.vradomil.specs.Host.{Judged, Passed, Leaves, Calls};
 use crate::answer::refusal;
-use crate::lent::WORD_SIZE;
-use crate::lent::lent;
-use crate::lent::word_at;
+use crate::buffers::WORD_SIZE;
+use crate::buffers::judge_buffers;
+use crate::buffers::word_at;
 use changes::end_first;
 use changes::fall_asleep;
 use changes::move_first;
@@ -132,7 +132,7 @@ fn perform(b: &mut [u8], words: &mut [u8], c: Call) -> u32
 fn judge(tables: &[u8], words: &[u8], c: Call) -> Verdict
     ensures { λ r. ⌜ Judged c (now (tables .entry)) (now (words .entry)) r ⌝ }
 {
-    let v = lent(tables, words);
+    let v = judge_buffers(tables, words);
     match v {
         Verdict::Refuse(x) => Verdict::Refuse(x),
         Verdict::Pass => {

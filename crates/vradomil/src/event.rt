@@ -8,10 +8,10 @@ ghost use Rattle.tables.specs.Sizes.{processes, noEntry};
 ghost use Rattle.rules.specs.declared.event.Event.the-variants.{Store, Clock, Interrupt};
 ghost use Rattle.rules.specs.Events.{waitingSet, panel};
 ghost use Rattle.layout.specs.Layout.{tablesAt, stateAt, tablesSize, listAt, waitingAt};
-ghost use Rattle.vradomil.specs.Host.{Stores, Ticks, Laid, packed};
+ghost use Rattle.vradomil.specs.Host.{ChangesWords, ChangesTables, Initialised, packed};
 use crate::answer::refusal;
-use crate::lent::WORD_SIZE;
-use crate::lent::lent;
+use crate::buffers::WORD_SIZE;
+use crate::buffers::judge_buffers;
 use changes::end_first;
 use effects::only_if;
 use layout::CLOCK_AT;
@@ -46,9 +46,9 @@ pub extern "C" fn vradomil_store(
     address: u32,
     value: u32,
 ) -> i32
-    ensures { λ r. ⌜ Stores (Store process address value) (now (tables .entry)) (now (words .entry)) r (now (words .exit)) ⌝ }
+    ensures { λ r. ⌜ ChangesWords (Store process address value) (now (tables .entry)) (now (words .entry)) r (now (words .exit)) ⌝ }
 {
-    let v = lent(tables, words);
+    let v = judge_buffers(tables, words);
     match v {
         Verdict::Refuse(x) => refusal(x),
         Verdict::Pass => {
@@ -70,9 +70,9 @@ pub extern "C" fn vradomil_store(
 // A clock event: the clock is set, and the sleepers whose deadline has come end.
 #[no_mangle]
 pub extern "C" fn vradomil_clock(tables: &mut [u8], words: &[u8], time: u64) -> i32
-    ensures { λ r. ⌜ Ticks (Clock time) (now (tables .entry)) (now (words .entry)) r (now (tables .exit)) ⌝ }
+    ensures { λ r. ⌜ ChangesTables (Clock time) (now (tables .entry)) (now (words .entry)) r (now (tables .exit)) ⌝ }
 {
-    let v = lent(tables, words);
+    let v = judge_buffers(tables, words);
     match v {
         Verdict::Refuse(x) => refusal(x),
         Verdict::Pass => {
@@ -91,9 +91,9 @@ pub extern "C" fn vradomil_clock(tables: &mut [u8], words: &[u8], time: u64) -> 
 // An interrupt of a thread: a sleeper ends.
 #[no_mangle]
 pub extern "C" fn vradomil_interrupt(tables: &mut [u8], words: &[u8], process: u8, index: u8) -> i32
-    ensures { λ r. ⌜ Ticks (Interrupt process index) (now (tables .entry)) (now (words .entry)) r (now (tables .exit)) ⌝ }
+    ensures { λ r. ⌜ ChangesTables (Interrupt process index) (now (tables .entry)) (now (words .entry)) r (now (tables .exit)) ⌝ }
 {
-    let v = lent(tables, words);
+    let v = judge_buffers(tables, words);
     match v {
         Verdict::Refuse(x) => refusal(x),
         Verdict::Pass => {
@@ -159,7 +159,7 @@ fn fresh_byte(i: usize) -> u8
 // Lays down the fresh tables.
 #[no_mangle]
 pub extern "C" fn vradomil_fresh(tables: &mut [u8]) -> i32
-    ensures { λ r. ⌜ Laid (now (tables .entry)) r (now (tables .exit)) ⌝ }
+    ensures { λ r. ⌜ Initialised (now (tables .entry)) r (now (tables .exit)) ⌝ }
 {
     if tables.len() != TABLES_SIZE {
         return refusal(Errno::EBADF);

@@ -1,5 +1,5 @@
-// Vradomil: the entry points for a host written in C, on numbers and byte slices. It stands on kernel and layout.
+// Vradomil: the entry points for a host written in C, on numbers and byte slices. It stands on changes, verdicts and effects.
 mod answer;
+mod buffers;
 pub mod call;
 pub mod event;
-mod lent;

@@ -1,3 +1,4 @@
+use Rattle.rules.specs.Claims.{Clear}
 use borrow.Author.Needs.{needs}
 use mathlib.Core.Path.{_≡_, sym, ap, _∙_}
 use mathlib.Core.Bool.{false}
@@ -9,7 +10,6 @@ use Rattle.rules.specs.Calls.{noThread}
 use Rattle.rules.specs.Answers.{answered}
 use Rattle.rules.specs.Events.{refusals, effect, interruptEffect}
 use Rattle.tables.proofs.Sound.{Sound, sound-tables}
-use Rattle.rules.proofs.Rows.{Clear}
 use Rattle.rules.proofs.Passed.{sound-of, thread-process, thread-index}
 use Rattle.kernel.proofs.Events.{interrupt-ends, interrupt-words}
 use Rattle.kernel.proofs.Steps.{cleared, follows-refused, follows-passed}

@@ -1,3 +1,4 @@
+use Rattle.rules.specs.Claims.{Clear}
 use borrow.Author.Needs.{needs}
 use mathlib.Core.Path.{_≡_, refl, _∙_}
 use Rattle.rules.specs.declared.event.Event.{Event}
@@ -6,7 +7,6 @@ use Rattle.rules.specs.declared.answer.Verdict.the-variants.{Pass}
 use Rattle.tables.specs.Tables.{world, World}
 use Rattle.rules.specs.Events.{refusals, effect, clockEffect}
 use Rattle.tables.proofs.Sound.{Sound, sound-tables}
-use Rattle.rules.proofs.Rows.{Clear}
 use Rattle.rules.proofs.Passed.{sound-of}
 use Rattle.kernel.proofs.Events.{clock-ends}
 use Rattle.kernel.proofs.Steps.{cleared, follows-refused, follows-passed}

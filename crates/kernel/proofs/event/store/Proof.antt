@@ -1,3 +1,4 @@
+use Rattle.rules.specs.Claims.{Clear}
 use borrow.Author.Needs.{needs}
 use mathlib.Core.Path.{_≡_, ap}
 use native.Mathlib.Omega.{arith}
@@ -5,7 +6,6 @@ use lib.ListN.{set}
 use Rattle.rules.specs.declared.answer.Verdict.the-variants.{Pass}
 use Rattle.tables.specs.Sizes.{processes, bytesPerProcess}
 use Rattle.tables.specs.Tables.{world, World}
-use Rattle.rules.proofs.Rows.{Clear}
 use Rattle.rules.proofs.Passed.{memory-is}
 use Rattle.kernel.proofs.Steps.{cleared, follows-refused, follows-passed}
 use borrow.Author.Tests.{leb-false}

@@ -12,20 +12,20 @@ use Rattle.layout.specs.Layout.{tablesAt, wordsAt, memorySize}
 use Rattle.layout.specs.Check.{Held}
 use Rattle.layout.proofs.Reading.{thread-read, clock-read, count-read}
 use Rattle.rules.proofs.Rows.{not-pass}
-use Rattle.vradomil.proofs.Steps.{event-refused, lent-passed}
+use Rattle.vradomil.proofs.Steps.{event-refused, buffers-passed}
 use borrow.Author.Needs.{needs}
 use Rattle.vradomil.proofs.call.judge.Statement.{statement}
 use Rattle.vradomil.proofs.call.judge.Tie as tie
 
 -- what the first two rows have shown
 held : (c : tie.After-enum-told) → Held (now (c .before .before .before .before .before .args .tables))
-held c = c .before .before .lent .ensures .held (c .enum-told .given .1)
+held c = c .before .before .judge-buffers .ensures .held (c .enum-told .given .1)
 
 long : (c : tie.After-enum-told) → length (now (c .before .before .before .before .before .args .words)) ≡ memorySize
-long c = c .before .before .lent .ensures .long (c .enum-told .given .1)
+long c = c .before .before .judge-buffers .ensures .long (c .enum-told .given .1)
 
-lent-requires : tie.Need-lent-requires
-lent-requires c κs = search needs
+judge-buffers-requires : tie.Need-judge-buffers-requires
+judge-buffers-requires c κs = search needs
 
 enum-known-v : tie.Need-enum-known-v
 enum-known-v c = search needs
@@ -61,7 +61,7 @@ returns c =
     let b = now (g .args .tables) in
     let m = now (g .args .words) in
     record {
-      verdict = sym (event-refused (CallEvent (g .args .c)) b m (l .lent .result) (l .lent .ensures) refl _ (c .before .v .given .1));
+      verdict = sym (event-refused (CallEvent (g .args .c)) b m (l .judge-buffers .result) (l .judge-buffers .ensures) refl _ (c .before .v .given .1));
       held = not-pass;
       long = not-pass;
     }
@@ -89,7 +89,7 @@ returns-2 c =
       verdict = c .verdict-on .ensures
           ∙ (λ j. first (callRows (g .args .c) (thread j .waiting) (clock j) (count j) (w .word-at .ensures j)))
           ∙ ap (λ (s : State). first (callRows (g .args .c) (threadOf s x .waiting) (s .clock) (s .count) (getD ws (i .word-index .result) 0))) (sym (h .tables))
-          ∙ sym (lent-passed b m (l .lent .result) (l .lent .ensures) (callRows (g .args .c) (threadOf (tablesAt b) x .waiting) (tablesAt b .clock) (tablesAt b .count) (getD ws (i .word-index .result) 0)) (p .enum-told .given .1))
+          ∙ sym (buffers-passed b m (l .judge-buffers .result) (l .judge-buffers .ensures) (callRows (g .args .c) (threadOf (tablesAt b) x .waiting) (tablesAt b .clock) (tablesAt b .count) (getD ws (i .word-index .result) 0)) (p .enum-told .given .1))
           ∙ verdict-is (g .args .c) (tablesAt b) ws x (i .word-index .result) (t .thread-index .ensures) (i .word-index .ensures);
       held = λ e. h;
       long = λ e. long p;
@@ -99,7 +99,7 @@ pub judge-spec : {M : Type 1} → statement M
 judge-spec =
     tie.close
     (tie.spec
-    lent-requires
+    judge-buffers-requires
     enum-known-v
     enum-told
     thread-index-requires

@@ -21,7 +21,7 @@ use Rattle.layout.specs.Layout.{tablesAt, stateAt, wordsAt}
 use Rattle.layout.specs.Check.{Held}
 use Rattle.changes.specs.Change.{Took}
 use Rattle.vradomil.specs.Host.{seen}
-use Rattle.vradomil.proofs.Steps.{stands, event-refused, event-passed, ticks-refused, ticks-done}
+use Rattle.vradomil.proofs.Steps.{stands, event-refused, event-passed, changes-tables-refused, changes-tables-done}
 use Rattle.vradomil.proofs.Effects.{ended-few, answered-leaves}
 use lib.Dec.{ltb}
 use borrow.Author.Tests.{lt-ltb, le-ltb}
@@ -38,7 +38,7 @@ use borrow.Author.Needs.{needs}
 use Rattle.vradomil.proofs.event.vradomil_clock.Statement.{statement}
 use Rattle.vradomil.proofs.event.vradomil_clock.Tie as tie
 
-abbrev start : tie.After-lent → tie.Start
+abbrev start : tie.After-judge-buffers → tie.Start
 start c = c .before .before .before .before
 
 abbrev event : tie.Start → Event
@@ -46,7 +46,7 @@ event g = Clock (g .args .time)
 
 -- what the first two rows have shown
 held : (c : tie.After-enum-told) → Held (now (start (c .before .before) .args .tables))
-held c = c .before .before .lent .ensures .held (c .enum-told .given .1)
+held c = c .before .before .judge-buffers .ensures .held (c .enum-told .given .1)
 
 sound : (c : tie.After-enum-told) → Sound (stateAt (now (start (c .before .before) .args .tables)))
 sound c = tables-sound (stateAt (now (start (c .before .before) .args .tables))) (held c .sound)
@@ -62,7 +62,7 @@ own : (c : tie.After-enum-told)
 own c =
     let l = c .before .before in
     let g = start l in
-    event-passed (event g) (now (g .args .tables)) (now (g .args .words)) (l .lent .result) (l .lent .ensures) refl (c .enum-told .given .1)
+    event-passed (event g) (now (g .args .tables)) (now (g .args .words)) (l .judge-buffers .result) (l .judge-buffers .ensures) refl (c .enum-told .given .1)
 
 took : (c : tie.After-end-first)
     → let p = c .before .before .before .before .before .before .before in
@@ -78,8 +78,8 @@ few c =
     let p = c .before .before .before .before .before .before .before in
     ended-few TimedOut (flagged (c .before .before .expired .result)) threads (stateAt (now (start (p .before .before) .args .tables))) (c .end-first .result) (c .end-first .last .0) (sound p) (took c)
 
-lent-requires : tie.Need-lent-requires
-lent-requires c κs = search needs
+judge-buffers-requires : tie.Need-judge-buffers-requires
+judge-buffers-requires c κs = search needs
 
 enum-known-v : tie.Need-enum-known-v
 enum-known-v c = search needs
@@ -107,7 +107,7 @@ returns c =
     let g = start l in
     let b = now (g .args .tables) in
     let early : ltb (g .args .time) (tablesAt b .clock) ≡ true = sym (ap (ltb (g .args .time)) (clock k)) ∙ lt-ltb (g .args .time) (k .u64-at .result) (c .before .if1 .taken) in
-    ticks-refused (event g) b (now (g .args .words)) _ EINVAL (own p ∙ rw early)
+    changes-tables-refused (event g) b (now (g .args .words)) _ EINVAL (own p ∙ rw early)
     (ap (λ z. z ∷ []) (toZ-ofZ (c .refusal2 .ensures .1)) ∙ c .refusal2 .ensures .0)
 
 expired-requires : tie.Need-expired-requires
@@ -132,7 +132,7 @@ returns-2 : tie.Need-returns-2
 returns-2 c =
     let l = c .before .before .before .before in
     let g = start l in
-    ticks-refused (event g) (now (g .args .tables)) (now (g .args .words)) _ _ (event-refused (event g) (now (g .args .tables)) (now (g .args .words)) (l .lent .result) (l .lent .ensures) refl _ (c .before .before .v .given .1))
+    changes-tables-refused (event g) (now (g .args .tables)) (now (g .args .words)) _ _ (event-refused (event g) (now (g .args .tables)) (now (g .args .words)) (l .judge-buffers .result) (l .judge-buffers .ensures) refl _ (c .before .before .v .given .1))
     (ap (λ z. z ∷ []) (toZ-ofZ (c .refusal .ensures .1)) ∙ c .refusal .ensures .0)
 
 same-length-3 : tie.Need-same-length-3
@@ -157,7 +157,7 @@ returns-3 c =
     let t = endFirst TimedOut f threads s in
     let w = whole (t .state) (sound-tables (t .state) (end-sound TimedOut f threads s (sound p))) in
     let early : ltb time (tablesAt b .clock) ≡ false = sym (ap (ltb time) (clock k)) ∙ le-ltb time (k .u64-at .result) (o .if1 .left) in
-    ticks-done (event g) b m _ (e .end-first .result) _ (held p) (own p ∙ rw early) refl (toZ-pos w32 {n = e .end-first .result} (omega (arith, few e)))
+    changes-tables-done (event g) b m _ (e .end-first .result) _ (held p) (own p ∙ rw early) refl (toZ-pos w32 {n = e .end-first .result} (omega (arith, few e)))
     (answered-leaves (clockEffect time (world s (wordsAt m))) _ (e .end-first .result) _ (clock-ends time s (wordsAt m) (sound p) (x .expired .result) (x .expired .ensures) t refl)
     (record {
       number = ap (λ q. pos q ∷ []) (took e .number);
@@ -169,7 +169,7 @@ pub vradomil-clock-spec : {M : Type 1} → statement M
 vradomil-clock-spec =
     tie.close
     (tie.spec
-    lent-requires
+    judge-buffers-requires
     enum-known-v
     refusal-requires
     enum-told

@@ -25,13 +25,13 @@ use Rattle.layout.specs.Layout.{stateAt, wordsAt}
 use Rattle.layout.specs.Check.{Held}
 use Rattle.changes.specs.Change.{Took}
 use Rattle.vradomil.specs.Host.{seen}
-use Rattle.vradomil.proofs.Steps.{stands, took-done, interrupt-answers, event-refused, event-passed, ticks-refused, ticks-done}
+use Rattle.vradomil.proofs.Steps.{stands, took-done, interrupt-answers, event-refused, event-passed, changes-tables-refused, changes-tables-done}
 use Rattle.vradomil.proofs.Effects.{ended-few, answered-leaves}
 use borrow.Author.Needs.{needs}
 use Rattle.vradomil.proofs.event.vradomil_interrupt.Statement.{statement}
 use Rattle.vradomil.proofs.event.vradomil_interrupt.Tie as tie
 
-abbrev start : tie.After-lent → tie.Start
+abbrev start : tie.After-judge-buffers → tie.Start
 start c = c .before .before .before .before
 
 abbrev event : tie.Start → Event
@@ -39,7 +39,7 @@ event g = Interrupt (g .args .process) (g .args .index)
 
 -- what the first two rows have shown
 held : (c : tie.After-enum-told) → Held (now (start (c .before .before) .args .tables))
-held c = c .before .before .lent .ensures .held (c .enum-told .given .1)
+held c = c .before .before .judge-buffers .ensures .held (c .enum-told .given .1)
 
 sound : (c : tie.After-enum-told) → Sound (stateAt (now (start (c .before .before) .args .tables)))
 sound c = tables-sound (stateAt (now (start (c .before .before) .args .tables))) (held c .sound)
@@ -53,7 +53,7 @@ own : (c : tie.After-enum-told)
 own c =
     let l = c .before .before in
     let g = start l in
-    event-passed (event g) (now (g .args .tables)) (now (g .args .words)) (l .lent .result) (l .lent .ensures) refl (c .enum-told .given .1)
+    event-passed (event g) (now (g .args .tables)) (now (g .args .words)) (l .judge-buffers .result) (l .judge-buffers .ensures) refl (c .enum-told .given .1)
 
 took : (c : tie.After-end-first)
     → let p = c .before .before .before .before .before in
@@ -69,8 +69,8 @@ few c =
     let p = c .before .before .before .before .before in
     ended-few Interrupted (flagged (one (c .before .before .thread-index .result))) 1 (stateAt (now (start (p .before .before) .args .tables))) (c .end-first .result) (c .end-first .last .0) (sound p) (took c)
 
-lent-requires : tie.Need-lent-requires
-lent-requires c κs = search needs
+judge-buffers-requires : tie.Need-judge-buffers-requires
+judge-buffers-requires c κs = search needs
 
 enum-known-v : tie.Need-enum-known-v
 enum-known-v c = search needs
@@ -95,7 +95,7 @@ returns c =
     let n = c .before .before in
     let p = n .before in
     let g = start (p .before .before) in
-    ticks-refused (event g) (now (g .args .tables)) (now (g .args .words)) _ ESRCH (own p ∙ rw (sym (n .no-thread .ensures) ∙ c .before .if1 .taken))
+    changes-tables-refused (event g) (now (g .args .tables)) (now (g .args .words)) _ ESRCH (own p ∙ rw (sym (n .no-thread .ensures) ∙ c .before .if1 .taken))
     (ap (λ z. z ∷ []) (toZ-ofZ (c .refusal2 .ensures .1)) ∙ c .refusal2 .ensures .0)
 
 thread-index-requires : tie.Need-thread-index-requires
@@ -120,7 +120,7 @@ returns-2 : tie.Need-returns-2
 returns-2 c =
     let l = c .before .before .before .before in
     let g = start l in
-    ticks-refused (event g) (now (g .args .tables)) (now (g .args .words)) _ _ (event-refused (event g) (now (g .args .tables)) (now (g .args .words)) (l .lent .result) (l .lent .ensures) refl _ (c .before .before .v .given .1))
+    changes-tables-refused (event g) (now (g .args .tables)) (now (g .args .words)) _ _ (event-refused (event g) (now (g .args .tables)) (now (g .args .words)) (l .judge-buffers .result) (l .judge-buffers .ensures) refl _ (c .before .before .v .given .1))
     (ap (λ z. z ∷ []) (toZ-ofZ (c .refusal .ensures .1)) ∙ c .refusal .ensures .0)
 
 same-length-3 : tie.Need-same-length-3
@@ -142,7 +142,7 @@ returns-3 c =
     let exists : noThread (g .args .process) (g .args .index) ≡ false = sym (n .no-thread .ensures) ∙ o .if1 .left in
     let at = t .thread-index .ensures .exact (thread-process (g .args .process) (g .args .index) exists) (thread-index (g .args .process) (g .args .index) exists) in
     let taken = endFirst Interrupted (flagged (one x)) 1 s in
-    ticks-done (event g) b m _ (e .end-first .result) _ (held p) (own p ∙ rw exists) (interrupt-answers (threadNumber (g .args .process) (g .args .index)) (seen b m))
+    changes-tables-done (event g) b m _ (e .end-first .result) _ (held p) (own p ∙ rw exists) (interrupt-answers (threadNumber (g .args .process) (g .args .index)) (seen b m))
     (toZ-pos w32 {n = e .end-first .result} (omega (arith, few e)))
     (answered-leaves (interruptEffect (threadNumber (g .args .process) (g .args .index)) (world s (wordsAt m))) _ (e .end-first .result) _
     (interrupt-ends x s (wordsAt m) (sound p) (t .thread-index .ensures .inside) taken refl ∙ ap (λ q. answered (interruptEffect q (world s (wordsAt m)))) at)
@@ -152,7 +152,7 @@ pub vradomil-interrupt-spec : {M : Type 1} → statement M
 vradomil-interrupt-spec =
     tie.close
     (tie.spec
-    lent-requires
+    judge-buffers-requires
     enum-known-v
     refusal-requires
     enum-told

@@ -21,12 +21,12 @@ use Rattle.rules.proofs.Rows.{pass-clear}
 use Rattle.layout.specs.Layout.{wordsAt, wordsBytes}
 use Rattle.vradomil.specs.Host.{seen}
 use Rattle.vradomil.proofs.Memory.{word-written}
-use Rattle.vradomil.proofs.Steps.{ownRows, event-refused, event-passed, stores-refused, number-passed, words-passed}
+use Rattle.vradomil.proofs.Steps.{ownRows, event-refused, event-passed, changes-words-refused, number-passed, words-passed}
 use borrow.Author.Needs.{needs}
 use Rattle.vradomil.proofs.event.vradomil_store.Statement.{statement}
 use Rattle.vradomil.proofs.event.vradomil_store.Tie as tie
 
-abbrev start : tie.After-lent → tie.Start
+abbrev start : tie.After-judge-buffers → tie.Start
 start c = c .before .before .before .before
 
 abbrev event : tie.Start → Event
@@ -41,10 +41,10 @@ verdict : (c : tie.After-row3) → let g = start (c .before .before .before .bef
 verdict c =
     let l = c .before .before .before .before .before in
     let g = start l in
-    own-verdict c ∙ sym (event-passed (event g) (now (g .args .tables)) (now (g .args .words)) (l .lent .result) (l .lent .ensures) refl (c .before .before .before .enum-told .given .1))
+    own-verdict c ∙ sym (event-passed (event g) (now (g .args .tables)) (now (g .args .words)) (l .judge-buffers .result) (l .judge-buffers .ensures) refl (c .before .before .before .enum-told .given .1))
 
-lent-requires : tie.Need-lent-requires
-lent-requires c κs = search needs
+judge-buffers-requires : tie.Need-judge-buffers-requires
+judge-buffers-requires c κs = search needs
 
 enum-known-v : tie.Need-enum-known-v
 enum-known-v c = search needs
@@ -83,7 +83,7 @@ put-u32-requires : tie.Need-put-u32-requires
 put-u32-requires c κs =
     let i = c .before in
     let l = i .before .before .before .before .before .before .before .before in
-    omega (arith, i .word-index .ensures .inside, l .lent .ensures .long (i .before .before .before .before .before .before .enum-told .given .1))
+    omega (arith, i .word-index .ensures .inside, l .judge-buffers .ensures .long (i .before .before .before .before .before .before .enum-told .given .1))
 
 same-length : tie.Need-same-length
 same-length c = search needs
@@ -92,7 +92,7 @@ returns : tie.Need-returns
 returns c =
     let l = c .before .before .before .before in
     let g = start l in
-    stores-refused (event g) (now (g .args .tables)) (now (g .args .words)) _ _ (event-refused (event g) (now (g .args .tables)) (now (g .args .words)) (l .lent .result) (l .lent .ensures) refl _ (c .before .before .v .given .1))
+    changes-words-refused (event g) (now (g .args .tables)) (now (g .args .words)) _ _ (event-refused (event g) (now (g .args .tables)) (now (g .args .words)) (l .judge-buffers .result) (l .judge-buffers .ensures) refl _ (c .before .before .v .given .1))
     (ap (λ z. z ∷ []) (toZ-ofZ (c .refusal .ensures .1)) ∙ c .refusal .ensures .0)
 
 same-length-2 : tie.Need-same-length-2
@@ -102,7 +102,7 @@ returns-2 : tie.Need-returns-2
 returns-2 c =
     let r = c .before .before .before .before in
     let g = start (r .before .before .before .before .before) in
-    stores-refused (event g) (now (g .args .tables)) (now (g .args .words)) _ _ (sym (verdict r) ∙ c .before .before .v2 .given .1)
+    changes-words-refused (event g) (now (g .args .tables)) (now (g .args .words)) _ _ (sym (verdict r) ∙ c .before .before .v2 .given .1)
     (ap (λ z. z ∷ []) (toZ-ofZ (c .refusal2 .ensures .1)) ∙ c .refusal2 .ensures .0)
 
 same-length-3 : tie.Need-same-length-3
@@ -122,7 +122,7 @@ returns-3 c =
     let own = pass-clear (ownRows (event g) (seen b m)) (sym (own-verdict r) ∙ pass) in
     let at = i .word-index .ensures .exact (leb-false processes (g .args .process) (own .0)) (leb-false bytesPerProcess (g .args .address) (own .1 .1 .0)) in
     let low : Bytes m = λ (j : ℕ). omega (arith, l .before .before .slice-known .given j) in
-    let long = l .lent .ensures .long (r .before .before .before .enum-told .given .1) in
+    let long = l .judge-buffers .ensures .long (r .before .before .before .enum-told .given .1) in
     let h = sym (verdict r) ∙ pass in
     record {
       number = number-passed (event g) b m _ h refl refl;
@@ -134,7 +134,7 @@ pub vradomil-store-spec : {M : Type 1} → statement M
 vradomil-store-spec =
     tie.close
     (tie.spec
-    lent-requires
+    judge-buffers-requires
     enum-known-v
     refusal-requires
     enum-told

@@ -15,7 +15,7 @@ use Rattle.tables.specs.Sizes.{wordBytes, memoryWords}
 use Rattle.tables.specs.Tables.{tablesOk}
 use Rattle.layout.specs.Layout.{tablesAt, wordsOf, wordsAt, memorySize}
 use Rattle.layout.specs.Check.{Held}
-use Rattle.vradomil.specs.Host.{seen, Lent}
+use Rattle.vradomil.specs.Host.{seen, BuffersJudged}
 use Rattle.vradomil.proofs.Memory.{words-length}
 
 no-words : (n : ℕ) (m : List ℕ) → 0 < n → (length m ≡ wordBytes * n → ⊥) → eqb (length (wordsOf n m)) n ≡ false
@@ -29,11 +29,11 @@ pub right-words : (b m : List ℕ) → length m ≡ memorySize → wrongMemory (
 right-words b m h = ap not (eq-eqb (length (wordsAt m)) memoryWords (words-length memoryWords m h))
 
 module _ (b m : List ℕ) where
-  pub refused-memory : (length m ≡ memorySize → ⊥) → Lent b m (Refuse ENXIO)
+  pub refused-memory : (length m ≡ memorySize → ⊥) → BuffersJudged b m (Refuse ENXIO)
   refused-memory h = record { verdict = rw (wrong-words b m h); held = not-pass; long = not-pass }
 
-  pub refused-tables : length m ≡ memorySize → tablesOk (tablesAt b) ≡ false → Lent b m (Refuse EBADF)
+  pub refused-tables : length m ≡ memorySize → tablesOk (tablesAt b) ≡ false → BuffersJudged b m (Refuse EBADF)
   refused-tables size bad = record { verdict = rw (right-words b m size, bad); held = not-pass; long = not-pass }
 
-  pub let-through : length m ≡ memorySize → tablesOk (tablesAt b) ≡ true → Held b → Lent b m Pass
+  pub let-through : length m ≡ memorySize → tablesOk (tablesAt b) ≡ true → Held b → BuffersJudged b m Pass
   let-through size good held = record { verdict = rw (right-words b m size, good); held = λ e. held; long = λ e. size }

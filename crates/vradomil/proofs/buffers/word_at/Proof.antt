@@ -3,8 +3,8 @@ use mathlib.Core.Path.{sym, _∙_}
 use Rattle.tables.specs.Sizes.{memoryWords}
 use Rattle.vradomil.proofs.Memory.{word-read}
 use borrow.Author.Needs.{needs}
-use Rattle.vradomil.proofs.lent.word_at.Statement.{statement}
-use Rattle.vradomil.proofs.lent.word_at.Tie as tie
+use Rattle.vradomil.proofs.buffers.word_at.Statement.{statement}
+use Rattle.vradomil.proofs.buffers.word_at.Tie as tie
 
 mul-u32-at : tie.Need-mul-u32-at
 mul-u32-at c = search needs

@@ -4,7 +4,7 @@ ghost use Prim.Native.Nat.{_<_};
 ghost use lib.ListN.{length, getD};
 ghost use Rattle.tables.specs.Sizes.{memoryWords};
 ghost use Rattle.layout.specs.Layout.{wordsAt, memorySize};
-ghost use Rattle.vradomil.specs.Host.{Lent};
+ghost use Rattle.vradomil.specs.Host.{BuffersJudged};
 use layout::check::sound;
 use numbers::u32_at;
 use rules::answer::Errno;
@@ -16,8 +16,8 @@ pub const WORD_SIZE: usize = 4;
 const WORDS_SIZE: usize = WORD_SIZE * WORDS;
 
 // The first two rows of the table of answers.
-pub fn lent(tables: &[u8], words: &[u8]) -> Verdict
-    ensures { λ r. ⌜ Lent (now (tables .entry)) (now (words .entry)) r ⌝ }
+pub fn judge_buffers(tables: &[u8], words: &[u8]) -> Verdict
+    ensures { λ r. ⌜ BuffersJudged (now (tables .entry)) (now (words .entry)) r ⌝ }
 {
     if words.len() != WORDS_SIZE {
         return Verdict::Refuse(Errno::ENXIO);
