@@ -20,13 +20,12 @@ use Rattle.rules.specs.declared.event.Call.{Call}
 use Rattle.rules.specs.declared.event.Uses.{Uses}
 use Rattle.rules.specs.declared.answer.Answer.the-variants.{Count}
 use Rattle.tables.specs.Sizes.{threads}
-use Rattle.tables.specs.Tables.{World, threadOf, arrivals, sharesBit, sleepsAt, wordAt, endSleeps, writeWord}
+use Rattle.tables.specs.Tables.{World, threadOf, arrivals, sharesBit, sleepsAt, wordAt, endSleeps, writeWord, world}
 use Rattle.tables.specs.Steps.{Flags, flagged, endFirst, moveFirst}
 use Rattle.rules.specs.Answers.{answered}
 use Rattle.rules.specs.Commands.{commandOf, isUnknown, uses}
 use Rattle.rules.specs.WakeOp.{compares}
 use Rattle.rules.specs.Calls.{matches, secondCap, candidates, released, moved, releasedSecond, wait, wake, requeue, wakeOp, callEffect}
-use Rattle.tables.specs.Tables.{world}
 use Rattle.tables.proofs.Changes.{arrivals-end, end-append}
 use Rattle.tables.proofs.Sound.{Sound, waiting-below, listed-waiting, once, arrivals-fit}
 use Rattle.tables.proofs.Kept.{sound-end}

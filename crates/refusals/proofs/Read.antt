@@ -9,13 +9,12 @@ use Rattle.rules.specs.declared.event.Call.{Call}
 use Rattle.rules.specs.declared.event.Event.the-variants.{Call as CallEvent}
 use Rattle.rules.specs.declared.answer.Errno.the-variants.{ENXIO, EBADF}
 use Rattle.tables.specs.Sizes.{bytesPerProcess}
-use Rattle.tables.specs.Tables.{threadOf}
+use Rattle.tables.specs.Tables.{threadOf, world}
 use Rattle.rules.specs.Answers.{Row, _when_, first}
 use Rattle.rules.specs.Commands.{commandOf}
 use Rattle.rules.specs.Calls.{wrongMemory, brokenTables, callRows, callRefusals, differs}
 use Rattle.rules.specs.Events.{refusals}
 use Rattle.commands.specs.Places.{ThreadAt, WordAt}
-use Rattle.tables.specs.Tables.{world}
 use Rattle.rules.proofs.Rows.{Same, same-first}
 use Rattle.rules.proofs.Passed.{thread-process, thread-index, uaddr-inside}
 

@@ -1,5 +1,5 @@
 -- What is proved of the rules, demand by demand. Each theorem is stated here whole and cites its proof; specs/Claims.antt has the
--- words that the statements use.
+-- words that the statements use, specs/Cases.antt the twelve cases.
 use mathlib.Core.Path.{_≡_, refl, sym, ap, _∙_}
 use mathlib.Core.Bool.{true, false, cond}
 use mathlib.Core.List.{List, [], _∷_, map}
@@ -27,7 +27,8 @@ use Rattle.rules.specs.Events.{refusals, effect, step}
 use Rattle.rules.specs.History.{start, final, keptFor, answersTo}
 use Rattle.rules.specs.Claims.{FirstOf, Clear, Sleeps, sleepsBy, Took, Takes, wokenCount, shiftedCount, countsMoves, NamedAlike, Fate, asleepThere, sleptThrough, Since, Alike}
 use Rattle.rules.proofs.Rows.{first-of, of-first, clear-pass, verdicts, step-refused, step-passed}
-use Rattle.rules.proofs.Cases.{twelve, given, as-document-01-says}
+use Rattle.rules.specs.Cases.{twelve, given}
+use Rattle.rules.proofs.Cases.{as-document-01-says}
 use Rattle.tables.proofs.Sound.{tables-sound, sound-tables, none-overdue}
 use Rattle.rules.proofs.Refused.{refused-row}
 use Rattle.rules.proofs.Preserved.{step-valid, final-valid, start-valid}

@@ -1,4 +1,4 @@
--- "Answers by number": the paper's numbers, and the table of answers' reading, "the first that applies answers".
+-- "Answers by number": the paper's numbers, and how its table of answers is read.
 use mathlib.Core.Bool.{Bool, cond}
 use mathlib.Core.List.{List, [], _∷_}
 use Prim.Native.Nat.{ℕ}
@@ -42,7 +42,7 @@ answerNumbers (Waiting v) = pos (v .waiting) ∷ pos (v .count) ∷ pos (v .lowe
 abbrev pub lastNumber : LastAnswer → ℤ
 lastNumber NoneYet = pos 1
 lastNumber Woken = pos 0
-lastNumber TimedOut = negℤ (pos 110)
+lastNumber TimedOut = negℤ (pos (errnoNumber ETIMEDOUT))
 lastNumber Interrupted = negℤ (pos 4)
 
 -- A row of the table of answers: the error, and whether what it is given for applies.

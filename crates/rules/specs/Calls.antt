@@ -56,7 +56,7 @@ badArgument k c =
 unfoldable pub badAddress : Command → Call → Bool
 badAddress k c = outside (c .uaddr) || uses k .second && outside (c .uaddr2)
 
--- "WAKE_OP with an undefined operation or comparison"
+-- the one command that uses uaddr2 and moves nobody
 abbrev pub isWakeOp : Command → Bool
 isWakeOp k = uses k .second && not (uses k .moves)
 
@@ -94,6 +94,7 @@ callRows c waits now count word =
     ∷ ENOSYS when notImplemented (c .op)
     ∷ EINVAL when badArgument k c
     ∷ EFAULT when badAddress k c
+    -- "WAKE_OP with an undefined operation or comparison"
     ∷ ENOSYS when (isWakeOp k && undefinedOp (c .val3))
     ∷ EAGAIN when differs k c word
     ∷ ETIMEDOUT when late k c now

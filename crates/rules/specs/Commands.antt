@@ -52,7 +52,7 @@ notImplemented op = isUnknown (commandOf op) || eqb (bitSet op clockBit) 1
 abbrev usesRow : Bool → Bool → Bool → Bool → Bool → Bool → Uses
 usesRow a b c d e f = record { cap = a; second = b; mask = c; compare = d; deadline = e; moves = f }
 
--- a row for each command: cap, second, mask, compare, deadline, move
+-- a row for each command: cap, second, mask, compare, deadline, moves
 abbrev pub uses : Command → Uses
 uses Wait = usesRow false false false true true false
 uses WaitBitset = usesRow false false true true true false

@@ -1,4 +1,5 @@
--- Document 01 as definitions, a file for each of its sections, in its order.
+-- Document 01 from "Answers by number" to "Other events" as definitions, in its order; its sizes and tables stand in arrivals and tables, its
+-- log in bodies and log. Claims has the words in which the theorems speak of them, Cases the twelve cases.
 pub mod Answers
 pub mod Commands
 pub mod WakeOp
@@ -6,3 +7,4 @@ pub mod Calls
 pub mod Events
 pub mod History
 pub mod Claims
+pub mod Cases

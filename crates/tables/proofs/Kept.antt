@@ -1,4 +1,4 @@
--- Every change, event and history keeps the table rules.
+-- Every change of the tables keeps the table rules.
 use mathlib.Core.Path.{_≡_, refl, sym, ap, _∙_}
 use mathlib.Core.Bool.{Bool, true, false, not, _&&_}
 use mathlib.Core.List.{List, [], _∷_, _++_}

@@ -28,6 +28,6 @@ timeLimit = 2 ^ 64
 abbrev pub matchAny : ℕ
 matchAny = wordLimit - 1
 
--- the largest wake cap or second cap
+-- the largest wake cap or second cap: -22 if "above 2147483647"
 abbrev pub maxCap : ℕ
 maxCap = 2147483647

@@ -53,23 +53,37 @@ sleepsAt p a s t = eqb (processOf t) p && (threadOf s t .waiting && eqb (threadO
 unfoldable pub queue : ℕ → ℕ → State → List ℕ
 queue p a s = filter (sleepsAt p a s) (arrivals s)
 
--- a sleeper "whose deadline is at or below it"
-abbrev pub expired : ℕ → Thread → Bool
-expired now r = r .waiting && r .timed && leb (r .deadline) now
+-- The table rules, in the paper's order.
 
--- "every sleeper whose deadline is at or below it ends with -110"
-unfoldable pub expiredSleepers : ℕ → State → List ℕ
-expiredSleepers now s = filter (λ t. expired now (threadOf s t)) (arrivals s)
+-- "64 thread records and one arrival list with a count"
+abbrev pub sizesOk : State → Bool
+sizesOk s = eqb (length (s .threads)) threads && eqb (length (s .list)) threads
 
-abbrev pub sharesBit : ℕ → Thread → Bool
-sharesBit m r = not (eqb (bitAnd (r .bitset) m) 0)
+-- "count at most 64"
+abbrev pub countOk : State → Bool
+countOk s = leb (s .count) threads
 
--- The table rules.
+-- "the first count entries are thread numbers"
+abbrev pub numbersOk : State → Bool
+numbersOk s = all (λ t. ltb t threads) (arrivals s)
 
+-- "all different"
+abbrev pub distinctOk : State → Bool
+distinctOk s = distinct (arrivals s)
+
+-- "and are exactly the waiting threads"
+abbrev pub exactOk : State → Bool
+exactOk s = everyBelow threads (λ t. Bool·beq (elem t (arrivals s)) (threadOf s t .waiting))
+
+-- "later entries are 255"
+abbrev pub tailOk : State → Bool
+tailOk s = all (λ e. eqb e noEntry) (drop (s .count) (s .list))
+
+-- "a multiple of 4"
 abbrev pub aligned : ℕ → Bool
 aligned a = eqb (a % wordBytes) 0
 
--- no word of a process has this address
+-- "4096 or more"
 abbrev pub outside : ℕ → Bool
 outside a = leb bytesPerProcess a
 
@@ -89,37 +103,31 @@ waitingOk now r = aligned (r .uaddr) && ltb (r .uaddr) bytesPerProcess && not (e
 unfoldable pub recordOk : ℕ → Thread → Bool
 recordOk now r = cond (r .waiting) (waitingOk now r) (runningOk r)
 
--- "64 thread records and one arrival list with a count"
-abbrev pub sizesOk : State → Bool
-sizesOk s = eqb (length (s .threads)) threads && eqb (length (s .list)) threads
-
--- "count at most 64"
-abbrev pub countOk : State → Bool
-countOk s = leb (s .count) threads
-
--- "the first count entries are thread numbers"
-abbrev pub numbersOk : State → Bool
-numbersOk s = all (λ t. ltb t threads) (arrivals s)
-
--- "and are exactly the waiting threads"
-abbrev pub exactOk : State → Bool
-exactOk s = everyBelow threads (λ t. Bool·beq (elem t (arrivals s)) (threadOf s t .waiting))
-
--- "later entries are 255"
-abbrev pub tailOk : State → Bool
-tailOk s = all (λ e. eqb e noEntry) (drop (s .count) (s .list))
-
 abbrev pub recordsOk : State → Bool
 recordsOk s = all (recordOk (s .clock)) (s .threads)
 
--- "Table rules"; the entries are "all different".
+-- "Table rules"
 unfoldable pub tablesOk : State → Bool
 tablesOk s =
-    sizesOk s && countOk s && numbersOk s && distinct (arrivals s) && exactOk s && tailOk s && recordsOk s
+    sizesOk s && countOk s && numbersOk s && distinctOk s && exactOk s && tailOk s && recordsOk s
 
 -- "Fresh: clock 0, all running, last answers 1, list empty."
 unfoldable pub fresh : State
 fresh = record { clock = 0; threads = replicate threads (running NoneYet); list = replicate threads noEntry; count = 0 }
+
+-- Whom an event may end.
+
+-- a sleeper "whose deadline is at or below it"
+abbrev pub expired : ℕ → Thread → Bool
+expired now r = r .waiting && r .timed && leb (r .deadline) now
+
+-- "every sleeper whose deadline is at or below it ends with -110"
+unfoldable pub expiredSleepers : ℕ → State → List ℕ
+expiredSleepers now s = filter (λ t. expired now (threadOf s t)) (arrivals s)
+
+-- a sleeper "whose mask shares a bit with val3"
+abbrev pub sharesBit : ℕ → Thread → Bool
+sharesBit m r = not (eqb (bitAnd (r .bitset) m) 0)
 
 -- The changes.
 
@@ -145,14 +153,15 @@ ended a r = running a
 unfoldable pub endSleeps : LastAnswer → List ℕ → State → State
 endSleeps a ts s = withArrivals (without ts (arrivals s)) (withThreads (change (ended a) ts (s .threads)) s)
 
+-- "with mask and deadline kept"
 abbrev pub movedTo : ℕ → Thread → Thread
 movedTo a r = record { waiting = r .waiting; uaddr = a; bitset = r .bitset; timed = r .timed; deadline = r .deadline; last = r .last }
 
--- "move to uaddr2, joining the end of the arrival list in their order, with mask and deadline kept"
+-- "move to uaddr2, joining the end of the arrival list in their order"
 unfoldable pub moveSleeps : ℕ → List ℕ → State → State
 moveSleeps a ts s = withArrivals (without ts (arrivals s) ++ ts) (withThreads (change (movedTo a) ts (s .threads)) s)
 
--- "The last answer is .." kept while asleep: a sleep has no answer before it ends.
+-- "the answer of its last ended sleep" stays while the thread sleeps
 abbrev pub asleepAt : ℕ → ℕ → Bool → ℕ → Thread → Thread
 asleepAt a m timed due r = record { waiting = true; uaddr = a; bitset = m; timed = timed; deadline = cond timed due 0; last = r .last }
 

@@ -1,6 +1,6 @@
 // Tables: what the kernel keeps, a clock, a record for each thread and the arrival list with its count; their rules and changes. It stands on arrivals.
 ghost use mathlib.Core.Path.{_≡_};
-ghost use mathlib.Core.Bool.{true, false, _&&_, _||_};
+ghost use mathlib.Core.Bool.{true, _&&_, _||_};
 ghost use Prim.Native.Nat.{_+_, _<_};
 ghost use lib.ListN.{take};
 ghost use lib.Dec.{eqb};
@@ -18,9 +18,9 @@ use arrivals::index_of;
 use arrivals::joined;
 use arrivals::split;
 
-pub const WORDS_PER_PROCESS: usize = 1024;
+pub const WORDS_PER_PROCESS: usize = State::WORDS_PER_PROCESS;
 
-pub const WORDS: usize = PROCESSES * WORDS_PER_PROCESS;
+pub const WORDS: usize = PROCESSES * State::WORDS_PER_PROCESS;
 
 pub const WORD_BYTES: u32 = 4;
 
@@ -35,6 +35,8 @@ pub enum LastAnswer {
     Interrupted,
 }
 
+// A thread record: running or waiting; the word's address, the waiter's mask, whether it has a deadline and the deadline; and the answer
+// of its last ended sleep.
 pub struct Thread {
     pub waiting: bool,
     pub uaddr: u32,
@@ -44,6 +46,7 @@ pub struct Thread {
     pub last: LastAnswer,
 }
 
+// The tables: a clock in nanoseconds, a record for each thread, and the arrival list with its count.
 pub struct State {
     pub clock: u64,
     pub threads: [Thread; THREADS],
@@ -124,6 +127,13 @@ pub struct Taken {
 }
 
 impl State {
+    pub const THREADS_PER_PROCESS: usize = arrivals::THREADS_PER_PROCESS;
+
+    pub const WORDS_PER_PROCESS: usize = 1024;
+
+    // The entry of the arrival list that names no thread.
+    pub const NO_ENTRY: u8 = arrivals::NO_ENTRY;
+
     pub fn fresh() -> Self
         ensures { λ r. ⌜ r ≡ fresh ⌝ }
     {
@@ -131,7 +141,7 @@ impl State {
         Self {
             clock: 0,
             threads: [t; THREADS],
-            list: [NO_ENTRY; THREADS],
+            list: [Self::NO_ENTRY; THREADS],
             count: 0,
         }
     }
@@ -212,9 +222,9 @@ impl State {
         ensures { λ r. ⌜ Flags r (λ t. (any || sharesBit bitset (threadOf self t)) && sleepsAt process uaddr self t) ⌝ }
     {
         let mut flags = [false; THREADS];
-        let base = THREADS_PER_PROCESS * process;
+        let base = Self::THREADS_PER_PROCESS * process;
         let mut i: usize = 0;
-        while i < THREADS_PER_PROCESS {
+        while i < Self::THREADS_PER_PROCESS {
             let t = self.threads[base + i];
             let hit = t.is_hit(uaddr, any, bitset);
             flags[base + i] = hit;

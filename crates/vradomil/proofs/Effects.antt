@@ -20,7 +20,6 @@ use Rattle.rules.specs.WakeOp.{compares}
 use Rattle.rules.specs.Calls.{matches, secondCap, candidates, wake, requeue, wakeOp}
 use Rattle.tables.proofs.Sound.{Sound, sound-tables}
 use Rattle.rules.specs.declared.answer.Answered.{Answered}
-use Rattle.rules.specs.declared.answer.Answered.{Answered}
 use Rattle.effects.proofs.Effects.{end-sound, end-few, move-few, wakes, requeues, releases-both}
 use Rattle.changes.specs.Change.{Stands, Took}
 use Rattle.vradomil.specs.Host.{Done, Leaves}

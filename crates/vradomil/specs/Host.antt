@@ -16,9 +16,8 @@ use Rattle.rules.specs.declared.answer.Verdict.{Verdict}
 use Rattle.rules.specs.declared.answer.Verdict.the-variants.{Pass}
 use Rattle.rules.specs.declared.answer.Errno.the-variants.{ENXIO, EBADF}
 use Rattle.rules.specs.declared.answer.Panel.{Panel}
-use Rattle.tables.specs.Sizes.{maxCap}
 use Rattle.tables.specs.Tables.{World, world, fresh}
-use Rattle.rules.specs.Answers.{_when_, first, Outcome, answerNumbers}
+use Rattle.rules.specs.Answers.{_when_, first, Outcome, answerNumbers, asleepNumber}
 use Rattle.rules.specs.Calls.{wrongMemory, brokenTables}
 use Rattle.rules.specs.Events.{step, refusals}
 use Rattle.effects.specs.Ready.{Ready}
@@ -93,7 +92,8 @@ pub record Passed (c : Call) (tables : List ℕ) : Type 0 where
 -- an answer and the tables that go with it, as a number and bytes
 pub record Done (a : Answer) (s : State) (n : ℕ) (after : List ℕ) : Type 0 where
   pub number : Numbered a (pos n)
-  pub small : n ≤ maxCap
+  -- it fits a signed 32-bit number, of which "asleep" is the largest
+  pub small : n ≤ asleepNumber
   pub bytes : after ≡ tablesBytes s
 
 abbrev pub Leaves : Outcome → ℕ → List ℕ → Type 0

@@ -6,13 +6,12 @@ use native.Mathlib.Omega.{arith}
 use Rattle.tables.specs.declared.LastAnswer.the-variants.{Woken}
 use Rattle.rules.specs.declared.answer.Answer.the-variants.{Count}
 use Rattle.tables.specs.Sizes.{threads}
-use Rattle.tables.specs.Tables.{wordAt, tablesOk}
+use Rattle.tables.specs.Tables.{wordAt, tablesOk, world}
 use Rattle.tables.specs.Steps.{flagged, endFirst}
 use Rattle.rules.specs.Commands.{commandOf}
 use Rattle.rules.specs.WakeOp.{compares}
 use Rattle.rules.specs.Calls.{secondCap}
 use Rattle.tables.proofs.Sound.{Sound, tables-sound, sound-tables}
-use Rattle.tables.specs.Tables.{world}
 use Rattle.effects.proofs.Effects.{end-sound, end-few, chosen, releases-both}
 use Rattle.effects.proofs.release_both.Statement.{statement}
 use Rattle.effects.proofs.release_both.Tie as tie

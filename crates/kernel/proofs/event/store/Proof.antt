@@ -5,14 +5,13 @@ use native.Mathlib.Omega.{arith}
 use lib.ListN.{set}
 use Rattle.rules.specs.declared.answer.Verdict.the-variants.{Pass}
 use Rattle.tables.specs.Sizes.{processes, bytesPerProcess}
-use Rattle.tables.specs.Tables.{world, World}
+use Rattle.tables.specs.Tables.{world, World, writeWord}
 use Rattle.rules.proofs.Passed.{memory-is}
 use Rattle.kernel.proofs.Steps.{cleared, follows-refused, follows-passed}
 use borrow.Author.Tests.{leb-false}
 use Rattle.rules.specs.declared.event.Event.{Event}
 use Rattle.rules.specs.declared.event.Event.the-variants.{Store}
 use Rattle.rules.specs.Events.{refusals, effect}
-use Rattle.tables.specs.Tables.{writeWord}
 use Rattle.kernel.proofs.event.store.Statement.{statement}
 use Rattle.kernel.proofs.event.store.Tie as tie
 

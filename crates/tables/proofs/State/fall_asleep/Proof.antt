@@ -4,39 +4,30 @@ use Rattle.tables.proofs.Stored.{falls-asleep}
 use Rattle.tables.proofs.State.fall_asleep.Statement.{statement}
 use Rattle.tables.proofs.State.fall_asleep.Tie as tie
 
--- src/lib.rt:183:19
 mul-old : tie.Need-mul-old
 mul-old c = search needs
 
--- src/lib.rt:183:19
 element-copy-out-old : tie.Need-element-copy-out-old
 element-copy-out-old c = search needs
 
--- src/lib.rt:184:13
 asleep-at-requires : tie.Need-asleep-at-requires
 asleep-at-requires c κs = search needs
 
--- src/lib.rt:185:9
 mul-new : tie.Need-mul-new
 mul-new c = search needs
 
--- src/lib.rt:185:9
 element-set-from-new : tie.Need-element-set-from-new
 element-set-from-new c = search needs
 
--- src/lib.rt:187:24
 cast-self : tie.Need-cast-self
 cast-self c = search needs
 
--- src/lib.rt:187:9
 element-write-self : tie.Need-element-write-self
 element-write-self c = search needs
 
--- src/lib.rt:188:22
 add-self : tie.Need-add-self
 add-self c = search needs
 
--- src/lib.rt:179:5
 returns : tie.Need-returns
 returns c =
     let g = c .before .before in

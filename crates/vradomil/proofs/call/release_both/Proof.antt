@@ -3,13 +3,12 @@ use mathlib.Core.Path.{_≡_, sym, _∙_}
 use mathlib.Core.Bool.{cond}
 use native.Mathlib.Omega.{arith}
 use Rattle.tables.specs.declared.LastAnswer.the-variants.{Woken}
-use Rattle.tables.specs.Tables.{wordAt}
+use Rattle.tables.specs.Tables.{wordAt, world}
 use Rattle.tables.specs.Steps.{flagged, endFirst}
 use Rattle.tables.proofs.Sound.{Sound, tables-sound}
 use Rattle.rules.specs.Commands.{commandOf}
 use Rattle.rules.specs.WakeOp.{compares}
 use Rattle.rules.specs.Calls.{secondCap}
-use Rattle.tables.specs.Tables.{world}
 use Rattle.effects.proofs.Effects.{end-sound, chosen}
 use Rattle.layout.specs.Layout.{stateAt}
 use Rattle.changes.specs.Change.{Stands, Took}

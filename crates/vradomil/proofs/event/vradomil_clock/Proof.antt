@@ -15,7 +15,7 @@ use Rattle.tables.specs.Sizes.{threads}
 use Rattle.tables.specs.Steps.{flagged, endFirst}
 use Rattle.tables.proofs.Sound.{Sound, tables-sound, sound-tables}
 use Rattle.rules.specs.Answers.{first}
-use Rattle.rules.specs.Events.{refusals, effect}
+use Rattle.rules.specs.Events.{refusals, effect, clockEffect}
 use Rattle.tables.specs.Tables.{world}
 use Rattle.layout.specs.Layout.{tablesAt, stateAt, wordsAt}
 use Rattle.layout.specs.Check.{Held}
@@ -28,7 +28,6 @@ use borrow.Author.Tests.{lt-ltb, le-ltb}
 use Rattle.lists.specs.LittleEndian.{bytes}
 use Rattle.tables.specs.declared.LastAnswer.the-variants.{TimedOut}
 use Rattle.rules.specs.declared.event.Event.the-variants.{Clock}
-use Rattle.rules.specs.Events.{clockEffect}
 use Rattle.effects.proofs.Effects.{end-sound}
 use Rattle.kernel.proofs.Events.{clock-ends}
 use Rattle.layout.proofs.Reading.{clock-read}

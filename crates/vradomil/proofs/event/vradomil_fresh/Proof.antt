@@ -12,7 +12,6 @@ use Rattle.lists.proofs.Loops.{copy-next}
 use Rattle.tables.specs.Tables.{fresh}
 use Rattle.layout.specs.Layout.{tablesBytes, tablesSize}
 use Rattle.vradomil.proofs.Laying.{fresh-size, fresh-byte}
-use borrow.Author.Needs.{needs}
 use Rattle.vradomil.proofs.event.vradomil_fresh.Statement.{statement}
 use Rattle.vradomil.proofs.event.vradomil_fresh.Tie as tie
 

@@ -14,7 +14,6 @@ use Rattle.rules.specs.Events.{bitsBelow, waitingSet}
 use Rattle.kernel.proofs.Events.{Bits, bits-start, bits-limit, bits-next}
 use Rattle.layout.specs.Layout.{stateAt, waitingAt}
 use Rattle.layout.proofs.Reading.{thread-read}
-use borrow.Author.Needs.{needs}
 use Rattle.vradomil.proofs.event.waiting_set.Statement.{statement}
 use Rattle.vradomil.proofs.event.waiting_set.Tie as tie
 

@@ -1,0 +1,155 @@
+-- "Twelve to be proved together": P1 to P12, each run from the fresh state over zero words, in one table. proofs/Theorems.antt has their one
+-- statement, `twelve-cases`.
+use mathlib.Core.Bool.{Bool, true, false}
+use mathlib.Core.List.{List, [], _∷_, _++_, map}
+use Prim.Native.Nat.{ℕ, suc, _-_}
+use lib.ListN.{replicate}
+use lib.IntN.{ℤ, pos, negℤ}
+use Rattle.tables.specs.declared.State.{State}
+use Rattle.tables.specs.declared.Thread.{Thread}
+use Rattle.tables.specs.declared.LastAnswer.{LastAnswer}
+use Rattle.tables.specs.declared.LastAnswer.the-variants.{NoneYet, Woken, TimedOut, Interrupted}
+use Rattle.rules.specs.declared.event.Event.{Event}
+use Rattle.rules.specs.declared.event.Event.the-variants.{Call, Store, Clock}
+use Rattle.tables.specs.Sizes.{memoryWords, threadsPerProcess, matchAny}
+use Rattle.tables.specs.Tables.{World, threadOf, arrivals, wordAt}
+use Rattle.rules.specs.Answers.{answerNumbers, lastNumber}
+use Rattle.rules.specs.Events.{step}
+use Rattle.rules.specs.History.{start, final}
+
+-- the words are of process 0, and most cases use the one at this address
+abbrev address : ℕ
+address = 8
+
+abbrev other : ℕ
+other = 12
+
+-- the thread that wakes and requeues
+abbrev waker : ℕ
+waker = threadsPerProcess - 1
+
+abbrev callBy : ℕ → ℕ → ℕ → ℕ → ℕ → ℕ → ℕ → ℕ → Event
+callBy i op a v flag timeout a2 v3 =
+    Call (record { process = 0; index = i; op = op; uaddr = a; val = v; flag = flag; timeout = timeout; uaddr2 = a2; val3 = v3 })
+
+-- thread i waits at a for v
+abbrev waitFor : ℕ → ℕ → ℕ → Event
+waitFor i a v = callBy i 0 a v 0 0 0 0
+
+abbrev waitUntil : ℕ → ℕ → ℕ → Event
+waitUntil i v timeout = callBy i 0 address v 1 timeout 0 0
+
+abbrev waitMask : ℕ → ℕ → Event
+waitMask i m = callBy i 9 address 0 0 0 0 m
+
+abbrev byWaker : ℕ → ℕ → ℕ → ℕ → ℕ → ℕ → Event
+byWaker op a v cap2 a2 v3 = callBy waker op a v 0 cap2 a2 v3
+
+-- a sleeper as it is to be seen: its number, address, mask and deadline
+pub record Sleeper : Type 0 where
+  pub number : ℕ
+  pub uaddr : ℕ
+  pub bitset : ℕ
+  pub timed : Bool
+  pub deadline : ℕ
+
+-- an ended sleep as it is to be seen: the thread's number and the sleep's answer
+pub record EndedSleep : Type 0 where
+  pub number : ℕ
+  pub answer : ℤ
+
+-- What happens; then what the paper says of it: the answers, who sleeps, in list order, whose sleep ended, and the word at the address.
+pub record Case : Type 0 where
+  pub happens : List Event
+  pub answers : List (List ℤ)
+  pub sleep : List Sleeper
+  pub ended : List EndedSleep
+  pub word : ℕ
+
+abbrev line : List Event → List (List ℤ) → List Sleeper → List EndedSleep → ℕ → Case
+line events numbers sleepers sleeps v = record { happens = events; answers = numbers; sleep = sleepers; ended = sleeps; word = v }
+
+abbrev at : ℕ → ℕ → Sleeper
+at t a = record { number = t; uaddr = a; bitset = matchAny; timed = false; deadline = 0 }
+
+abbrev masked : ℕ → ℕ → Sleeper
+masked t m = record { number = t; uaddr = address; bitset = m; timed = false; deadline = 0 }
+
+abbrev until : ℕ → ℕ → ℕ → Sleeper
+until t a due = record { number = t; uaddr = a; bitset = matchAny; timed = true; deadline = due }
+
+abbrev asleep : List ℤ
+asleep = pos 2147483647 ∷ []
+
+abbrev number : ℕ → List ℤ
+number n = pos n ∷ []
+
+abbrev minus : ℕ → List ℤ
+minus n = negℤ (pos n) ∷ []
+
+abbrev endedSleep : ℕ → ℤ → EndedSleep
+endedSleep t z = record { number = t; answer = z }
+
+abbrev woken : ℕ → EndedSleep
+woken t = endedSleep t (pos 0)
+
+abbrev timedOut : ℕ → EndedSleep
+timedOut t = endedSleep t (negℤ (pos 110))
+
+abbrev threeAsleep : List Event
+threeAsleep = waitUntil 0 0 10 ∷ waitUntil 1 0 11 ∷ waitUntil 2 0 12 ∷ []
+
+abbrev pub twelve : List Case
+twelve =
+    -- P1 word 5, WAIT val 5: asleep; val 4: -11
+    line (Store 0 address 5 ∷ waitFor 0 address 5 ∷ waitFor 1 address 4 ∷ []) (number 0 ∷ asleep ∷ minus 11 ∷ []) (at 0 address ∷ []) [] 5
+    -- P2 WAIT at 4092 with the right val: asleep
+    ∷ line (waitFor 0 4092 0 ∷ []) (asleep ∷ []) (at 0 4092 ∷ []) [] 0
+    -- P3 4094: -22; 4096: -14; 4097: -22
+    ∷ line (waitFor 0 4094 0 ∷ waitFor 0 4096 0 ∷ waitFor 0 4097 0 ∷ []) (minus 22 ∷ minus 14 ∷ minus 22 ∷ []) [] [] 0
+    -- P4 WAKE cap 0: 0; 2147483648: -22
+    ∷ line (waitFor 0 address 0 ∷ byWaker 1 address 0 0 0 0 ∷ byWaker 1 address 2147483648 0 0 0 ∷ []) (asleep ∷ number 0 ∷ minus 22 ∷ []) (at 0 address ∷ []) [] 0
+    -- P5 sleepers with masks 1, 2, 3; WAKE_BITSET mask 2 cap 1 releases the second; the others keep their order
+    ∷ line (waitMask 0 1 ∷ waitMask 1 2 ∷ waitMask 2 3 ∷ byWaker 10 address 1 0 0 2 ∷ []) (asleep ∷ asleep ∷ asleep ∷ number 1 ∷ []) (masked 0 1 ∷ masked 2 3 ∷ []) (woken 1 ∷ []) 0
+    -- P6 three sleepers, CMP_REQUEUE val 1, second cap 1: 2, one left behind
+    ∷ line (threeAsleep ++ (byWaker 4 address 1 1 other 0 ∷ [])) (asleep ∷ asleep ∷ asleep ∷ number 2 ∷ []) (until 2 address 12 ∷ until 1 other 11 ∷ []) (woken 0 ∷ []) 0
+    -- P7 the same by REQUEUE: 1
+    ∷ line (threeAsleep ++ (byWaker 3 address 1 1 other 0 ∷ [])) (asleep ∷ asleep ∷ asleep ∷ number 1 ∷ []) (until 2 address 12 ∷ until 1 other 11 ∷ []) (woken 0 ∷ []) 0
+    -- P8 WAKE_OP 0x14001000 on word 4294967295: word becomes 0, comparison true
+    ∷ line (Store 0 address 4294967295 ∷ waitFor 0 address 4294967295 ∷ byWaker 5 other 0 1 address 0x14001000 ∷ []) (number 0 ∷ asleep ∷ number 1 ∷ []) [] (woken 0 ∷ []) 0
+    -- P9 WAKE_OP 0xB0021003 on 3: word 1, true
+    ∷ line (Store 0 address 3 ∷ waitFor 0 address 3 ∷ byWaker 5 other 0 1 address 0xB0021003 ∷ []) (number 0 ∷ asleep ∷ number 1 ∷ []) [] (woken 0 ∷ []) 1
+    -- P10 clock 5, WAIT timeout 10: clock 14 ends none, 15 ends one, then 14 is -22
+    ∷ line (Clock 5 ∷ waitUntil 0 0 10 ∷ Clock 14 ∷ []) (number 0 ∷ asleep ∷ number 0 ∷ []) (until 0 address 15 ∷ []) [] 0
+    ∷ line (Clock 5 ∷ waitUntil 0 0 10 ∷ Clock 14 ∷ Clock 15 ∷ Clock 14 ∷ []) (number 0 ∷ asleep ∷ number 0 ∷ number 1 ∷ minus 22 ∷ []) [] (timedOut 0 ∷ []) 0
+    -- P11 timeout 0: -110 if the word matches, -11 if not
+    ∷ line (waitUntil 0 0 0 ∷ waitUntil 0 1 0 ∷ []) (minus 110 ∷ minus 11 ∷ []) [] [] 0
+    -- P12 op 128 as 0; op 256, 2 and 512: -38
+    ∷ line (callBy 0 128 address 0 0 0 0 0 ∷ callBy 1 256 address 0 0 0 0 0 ∷ callBy 1 2 address 0 0 0 0 0 ∷ callBy 1 512 address 0 0 0 0 0 ∷ []) (asleep ∷ minus 38 ∷ minus 38 ∷ minus 38 ∷ []) (at 0 address ∷ []) [] 0
+    ∷ []
+
+-- what the rules give
+
+abbrev told : List Event → World → List (List ℤ)
+told [] w = []
+told (e ∷ es) w = answerNumbers (step e w .answer) ∷ told es (step e w .world)
+
+abbrev sleepers : State → List Sleeper
+sleepers s = map (λ t. let r = threadOf s t in record { number = t; uaddr = r .uaddr; bitset = r .bitset; timed = r .timed; deadline = r .deadline }) (arrivals s)
+
+-- the sleeps that have ended, of the threads from number n on
+abbrev endedAs : LastAnswer → ℕ → List EndedSleep
+endedAs NoneYet t = []
+endedAs Woken t = endedSleep t (lastNumber Woken) ∷ []
+endedAs TimedOut t = endedSleep t (lastNumber TimedOut) ∷ []
+endedAs Interrupted t = endedSleep t (lastNumber Interrupted) ∷ []
+
+abbrev endedFrom : ℕ → List Thread → List EndedSleep
+endedFrom n [] = []
+endedFrom n (r ∷ rs) = endedAs (r .last) n ++ endedFrom (suc n) rs
+
+abbrev pub given : Case → Case
+given r =
+    let w = start (replicate memoryWords 0) in
+    let v = final (r .happens) w in
+    line (r .happens) (told (r .happens) w) (sleepers (v .state)) (endedFrom 0 (v .state .threads)) (wordAt v 0 address)
