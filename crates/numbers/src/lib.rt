@@ -5,6 +5,9 @@ ghost use lib.ListN.{length};
 ghost use lib.Seq.{sets};
 ghost use Rattle.lists.specs.LittleEndian.{bytes, Bytes, numberAt};
 
+// How many values a byte has.
+const BYTE: u32 = 1 << 8;
+
 // What the second, the third and the fourth byte of a number count, and the high half of one of eight bytes.
 const SECOND: u32 = 1 << 8;
 
@@ -13,9 +16,6 @@ const THIRD: u32 = 1 << 16;
 const FOURTH: u32 = 1 << 24;
 
 const HIGH: u64 = 1 << 32;
-
-// How many values a byte has.
-const BYTE: u32 = 1 << 8;
 
 fn wide(x: u8) -> u32
     ensures { λ r. ⌜ (r ≡ x) × (r < 256) ⌝ }

@@ -9,16 +9,38 @@ use rules::answer::Answer;
 // The most digits of a number of 64 bits: io::decimal's room.
 const DIGITS: usize = 20;
 
-const NEWLINE: u8 = 10;
+const NEWLINE: u8 = b'\n';
 
-const MINUS: u8 = 45;
+const MINUS: u8 = b'-';
 
-// The room that every line has: a minus sign, the ten digits of a number of 32 bits and the line end.
-pub const LINE_ROOM: usize = 12;
+// The most digits of a number of 32 bits.
+const WORD_DIGITS: usize = 10;
+
+// No line is longer than a minus sign, these digits and the line end.
+pub const LINE_ROOM: usize = 1 + WORD_DIGITS + 1;
 
 // The line of a call that sleeps, and its length.
 const ASLEEP: [u8; DIGITS] = [
-    97, 115, 108, 101, 101, 112, NEWLINE, 0, 0, 0, 0, 0, 0, 0, 0, 0, 0, 0, 0, 0,
+    b'a',
+    b's',
+    b'l',
+    b'e',
+    b'e',
+    b'p',
+    NEWLINE,
+    0,
+    0,
+    0,
+    0,
+    0,
+    0,
+    0,
+    0,
+    0,
+    0,
+    0,
+    0,
+    0,
 ];
 
 const ASLEEP_LINE: usize = 7;
