@@ -21,7 +21,7 @@ use Rattle.tables.specs.declared.LastAnswer.{LastAnswer}
 use Rattle.tables.specs.declared.LastAnswer.the-variants.{NoneYet, Woken, TimedOut, Interrupted}
 use Rattle.tables.specs.Sizes.{threads, wordBytes}
 use Rattle.tables.specs.Tables.{running, threadOf}
-use Rattle.layout.specs.Layout.{timeBytes, column, columns, concat, lastByte, lastOf, waitingByte, timedByte, tablesBytes, tablesAt, stateAt, threadAt, tablesSize, flagsOk, clockAt, waitingAt, timedAt, lastAt, uaddrAt, bitsetAt, deadlineAt}
+use Rattle.layout.specs.Layout.{timeBytes, column, columns, concat, lastByte, maxLast, lastOf, waitingByte, timedByte, tablesBytes, tablesAt, stateAt, threadAt, tablesSize, flagsOk, clockAt, waitingAt, timedAt, lastAt, uaddrAt, bitsetAt, deadlineAt}
 use Rattle.layout.proofs.Columns.{length-column, before, get-column}
 use Rattle.layout.proofs.Exact.{sizes}
 use Rattle.changes.specs.Change.{Whole, Stands, Fits}
@@ -50,7 +50,7 @@ last-back Woken = refl
 last-back TimedOut = refl
 last-back Interrupted = refl
 
-last-low : (a : LastAnswer) → (lastByte a < 256 ^ 1) × (lastByte a ≤ 3)
+last-low : (a : LastAnswer) → (lastByte a < 256 ^ 1) × (lastByte a ≤ maxLast)
 last-low NoneYet = (omega arith, omega arith)
 last-low Woken = (omega arith, omega arith)
 last-low TimedOut = (omega arith, omega arith)
@@ -109,7 +109,7 @@ module _ (s : State) (b : List ℕ) (h : Stands s b) (fit : Fits s) where
       let w = byte-read 3 waitingAt waitingByte refl (omega arith) refl i low (flag-low (r .waiting)) in
       let t = byte-read 4 timedAt timedByte refl (omega arith) refl i low (flag-low (r .timed)) in
       let a = byte-read 5 lastAt (λ q. lastByte (q .last)) refl (omega arith) refl i low (last-low (r .last) .0) in
-      rw (le-leb (getD b (waitingAt + i) 0) 1 (omega (arith, w, bit-le (r .waiting))), le-leb (getD b (timedAt + i) 0) 1 (omega (arith, t, bit-le (r .timed))), le-leb (getD b (lastAt + i) 0) 3 (omega (arith, a, last-low (r .last) .1))))
+      rw (le-leb (getD b (waitingAt + i) 0) 1 (omega (arith, w, bit-le (r .waiting))), le-leb (getD b (timedAt + i) 0) 1 (omega (arith, t, bit-le (r .timed))), le-leb (getD b (lastAt + i) 0) maxLast (omega (arith, a, last-low (r .last) .1))))
 
   pub tables-back : tablesAt b ≡ s
   unfolding tablesAt

@@ -14,7 +14,7 @@ use Rattle.lists.proofs.Tests.{and-left, and-right}
 use Rattle.lists.proofs.Count.{everyBelow-at}
 use Rattle.tables.specs.declared.Thread.{Thread}
 use Rattle.tables.specs.Sizes.{threads, wordBytes}
-use Rattle.layout.specs.Layout.{timeBytes, column, columns, concat, threadAt, stateAt, tablesBytes, tablesSize, lastByte, lastOf, waitingByte, timedByte, flagsOk, clockAt, countAt, listAt, waitingAt, timedAt, lastAt, uaddrAt, bitsetAt, deadlineAt, wordsBytes, wordsOf}
+use Rattle.layout.specs.Layout.{timeBytes, column, columns, concat, threadAt, stateAt, tablesBytes, tablesSize, lastByte, maxLast, lastOf, waitingByte, timedByte, flagsOk, clockAt, countAt, listAt, waitingAt, timedAt, lastAt, uaddrAt, bitsetAt, deadlineAt, wordsBytes, wordsOf}
 use Rattle.layout.proofs.Columns.{exact, column-tabulate, cuts, concat-cuts}
 
 -- the sizes of the columns
@@ -32,7 +32,7 @@ bit-of zero h = refl
 bit-of (suc zero) h = refl
 bit-of (suc (suc n)) h = absurd (omega arith)
 
-last-of : (n : ℕ) → n ≤ 3 → lastByte (lastOf n) ≡ n
+last-of : (n : ℕ) → n ≤ maxLast → lastByte (lastOf n) ≡ n
 last-of zero h = refl
 last-of (suc zero) h = refl
 last-of (suc (suc zero)) h = refl
@@ -40,14 +40,14 @@ last-of (suc (suc (suc zero))) h = refl
 last-of (suc (suc (suc (suc n)))) h = absurd (omega arith)
 
 module _ (b : List ℕ) (size : length b ≡ tablesSize) (flags : everyBelow threads (flagsOk b) ≡ true) (h : Bytes b) where
-  low : (i : ℕ) → i < threads → (getD b (waitingAt + i) 0 ≤ 1) × (getD b (timedAt + i) 0 ≤ 1) × (getD b (lastAt + i) 0 ≤ 3)
+  low : (i : ℕ) → i < threads → (getD b (waitingAt + i) 0 ≤ 1) × (getD b (timedAt + i) 0 ≤ 1) × (getD b (lastAt + i) 0 ≤ maxLast)
   low i l =
       let w = leb (getD b (waitingAt + i) 0) 1 in
       let t = leb (getD b (timedAt + i) 0) 1 in
-      let a = leb (getD b (lastAt + i) 0) 3 in
+      let a = leb (getD b (lastAt + i) 0) maxLast in
       let f = everyBelow-at threads (flagsOk b) flags i l in
       let wt = and-left (w && t) a f in
-      (leb-true _ 1 (and-left w t wt), leb-true _ 1 (and-right w t wt), leb-true _ 3 (and-right (w && t) a f))
+      (leb-true _ 1 (and-left w t wt), leb-true _ 1 (and-right w t wt), leb-true _ maxLast (and-right (w && t) a f))
 
   -- a column of bytes, and one of numbers
   byte-column : (f : Thread → ℕ) (at : ℕ) → at + threads ≤ tablesSize

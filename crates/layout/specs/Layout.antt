@@ -33,6 +33,10 @@ lastByte Woken = 1
 lastByte TimedOut = 2
 lastByte Interrupted = 3
 
+-- no greater byte stands for a last answer
+abbrev pub maxLast : ℕ
+maxLast = 3
+
 abbrev pub waitingByte : Thread → ℕ
 waitingByte r = bit (r .waiting)
 
@@ -114,7 +118,7 @@ stateAt b =
 
 -- the bytes of thread i that are not numbers stand for something
 abbrev pub flagsOk : List ℕ → ℕ → Bool
-flagsOk b i = leb (getD b (waitingAt + i) 0) 1 && leb (getD b (timedAt + i) 0) 1 && leb (getD b (lastAt + i) 0) 3
+flagsOk b i = leb (getD b (waitingAt + i) 0) 1 && leb (getD b (timedAt + i) 0) 1 && leb (getD b (lastAt + i) 0) maxLast
 
 -- "tables of a wrong length, or with a byte that stands for nothing"
 abbrev pub formOk : List ℕ → Bool

@@ -26,6 +26,9 @@ use tables::PROCESS_BYTES;
 use tables::THREADS;
 use tables::WORD_BYTES;
 
+// No greater byte stands for a last answer.
+const MAX_LAST: u8 = 3;
+
 // The flags of each thread stand for something, none but a sleeper has a deadline, and the marked threads are the waiting ones.
 fn flags_ok(b: &[u8], marks: [bool; THREADS]) -> bool
     requires { ⌜ length (now b) ≡ tablesSize ⌝ }
@@ -38,7 +41,10 @@ fn flags_ok(b: &[u8], marks: [bool; THREADS]) -> bool
         let timed = b[TIMED_AT + i];
         let last = b[LAST_AT + i];
         ok = ok
-            & ((waiting <= 1) & (timed <= waiting) & (last <= 3) & (marks[i] == (waiting == 1)));
+            & ((waiting <= 1)
+                & (timed <= waiting)
+                & (last <= MAX_LAST)
+                & (marks[i] == (waiting == 1)));
         i += 1;
     }
     ok
