@@ -5,7 +5,7 @@ use mathlib.Core.List.{List}
 use Prim.Native.Nat.{ℕ, _≤_, _<_}
 use lib.ListN.{length, take, getD}
 use lib.Dec.{ltb}
-use Rattle.lists.specs.Lists.{filter, all, elem, distinct, padTo, passed}
+use Rattle.lists.specs.Lists.{filter, all, elem, distinct, padTo, leftOver}
 use Rattle.arrivals.specs.declared.Parts.{Parts}
 use Rattle.arrivals.specs.Sizes.{threads, noEntry}
 
@@ -26,8 +26,8 @@ Flags flags f = (t : ℕ) → t < threads → flagged flags t ≡ f t
 unfoldable pub splitOf : (ℕ → Bool) → ℕ → List ℕ → Parts
 splitOf f cap l =
     record {
-      kept = padTo threads noEntry (passed f cap l);
-      count = length (passed f cap l);
+      kept = padTo threads noEntry (leftOver f cap l);
+      count = length (leftOver f cap l);
       taken = padTo threads noEntry (take cap (filter f l));
       n = length (take cap (filter f l));
     }

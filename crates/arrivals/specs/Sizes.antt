@@ -9,6 +9,7 @@ processes = 8
 abbrev pub threadsPerProcess : ℕ
 threadsPerProcess = 8
 
+-- "thread (p, i) has number 8p + i, 0 to 63"
 abbrev pub threads : ℕ
 threads = processes * threadsPerProcess
 

@@ -63,7 +63,7 @@ pub fn split(list: [u8; THREADS], count: usize, flags: [bool; THREADS], cap: usi
     }
 }
 
-// The list with n entries of another behind its own.
+// The list with n entries of another behind its own. move_first, of the tables and of their bytes, hands it what split kept and took.
 pub fn joined(list: [u8; THREADS], count: usize, others: [u8; THREADS], n: usize) -> [u8; THREADS]
     requires { ⌜ (list ≡ padTo threads noEntry (take count list)) × (count + n ≤ threads) ⌝ }
     ensures { λ r. ⌜ r ≡ padTo threads noEntry (take count list ++ take n others) ⌝ }

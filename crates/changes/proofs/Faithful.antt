@@ -19,9 +19,9 @@ use Rattle.tables.specs.declared.State.{State}
 use Rattle.tables.specs.declared.Thread.{Thread}
 use Rattle.tables.specs.declared.LastAnswer.{LastAnswer}
 use Rattle.tables.specs.declared.LastAnswer.the-variants.{NoneYet, Woken, TimedOut, Interrupted}
-use Rattle.tables.specs.Sizes.{threads}
+use Rattle.tables.specs.Sizes.{threads, wordBytes}
 use Rattle.tables.specs.Tables.{running, threadOf}
-use Rattle.layout.specs.Layout.{column, columns, concat, lastByte, lastOf, waitingByte, timedByte, tablesBytes, tablesAt, stateAt, threadAt, tablesSize, flagsOk, clockAt, waitingAt, timedAt, lastAt, uaddrAt, bitsetAt, deadlineAt}
+use Rattle.layout.specs.Layout.{timeBytes, column, columns, concat, lastByte, maxLast, lastOf, waitingByte, timedByte, tablesBytes, tablesAt, stateAt, threadAt, tablesSize, flagsOk, clockAt, waitingAt, timedAt, lastAt, uaddrAt, bitsetAt, deadlineAt}
 use Rattle.layout.proofs.Columns.{length-column, before, get-column}
 use Rattle.layout.proofs.Exact.{sizes}
 use Rattle.changes.specs.Change.{Whole, Stands, Fits}
@@ -50,7 +50,7 @@ last-back Woken = refl
 last-back TimedOut = refl
 last-back Interrupted = refl
 
-last-low : (a : LastAnswer) → (lastByte a < 256 ^ 1) × (lastByte a ≤ 3)
+last-low : (a : LastAnswer) → (lastByte a < 256 ^ 1) × (lastByte a ≤ maxLast)
 last-low NoneYet = (omega arith, omega arith)
 last-low Woken = (omega arith, omega arith)
 last-low TimedOut = (omega arith, omega arith)
@@ -86,16 +86,16 @@ module _ (s : State) (b : List ℕ) (h : Stands s b) (fit : Fits s) where
       let waiting = ap (λ n. eqb n 1) (byte-read 3 waitingAt waitingByte refl (omega arith) refl i low (flag-low (r .waiting))) ∙ waits (r .waiting) in
       let timed = ap (λ n. eqb n 1) (byte-read 4 timedAt timedByte refl (omega arith) refl i low (flag-low (r .timed))) ∙ waits (r .timed) in
       let last = ap lastOf (byte-read 5 lastAt (λ q. lastByte (q .last)) refl (omega arith) refl i low (last-low (r .last) .0)) ∙ last-back (r .last) in
-      let uaddr = number-read 6 4 uaddrAt (λ q. q .uaddr) refl refl i low (g .uaddr) (uaddrAt + 4 * i) refl (omega arith) in
-      let bitset = number-read 7 4 bitsetAt (λ q. q .bitset) refl refl i low (g .bitset) (bitsetAt + 4 * i) refl (omega arith) in
-      let deadline = number-read 8 8 deadlineAt (λ q. q .deadline) refl refl i low (g .deadline) (deadlineAt + 8 * i) refl (omega arith) in
+      let uaddr = number-read 6 wordBytes uaddrAt (λ q. q .uaddr) refl refl i low (g .uaddr) (uaddrAt + wordBytes * i) refl (omega arith) in
+      let bitset = number-read 7 wordBytes bitsetAt (λ q. q .bitset) refl refl i low (g .bitset) (bitsetAt + wordBytes * i) refl (omega arith) in
+      let deadline = number-read 8 timeBytes deadlineAt (λ q. q .deadline) refl refl i low (g .deadline) (deadlineAt + timeBytes * i) refl (omega arith) in
       λ j. record { waiting = waiting j; uaddr = uaddr j; bitset = bitset j; timed = timed j; deadline = deadline j; last = last j }
 
   state-back : stateAt b ≡ s
   unfolding stateAt tablesBytes
   state-back =
-      let clock : numberAt 8 clockAt b ≡ s .clock =
-      ap (λ l. numberAt 8 clockAt l) (h .bytes) ∙ ap le (column-read (columns s) (sized s shape) 0 clockAt 8 (bytes 8 (s .clock)) refl refl refl) ∙ le-bytes 8 (s .clock) (fit .clock) in
+      let clock : numberAt timeBytes clockAt b ≡ s .clock =
+      ap (λ l. numberAt timeBytes clockAt l) (h .bytes) ∙ ap le (column-read (columns s) (sized s shape) 0 clockAt timeBytes (bytes timeBytes (s .clock)) refl refl refl) ∙ le-bytes timeBytes (s .clock) (fit .clock) in
       let records : tabulate threads (threadAt b) ≡ s .threads =
       ext-getD (running NoneYet) (tabulate threads (threadAt b)) (s .threads) (length-tabulate threads (threadAt b) ∙ sym (shape .records))
       (λ i l. let low : i < threads = omega (arith, length-tabulate threads (threadAt b)) in getD-tabulate threads (threadAt b) i (running NoneYet) low ∙ thread-back i low) in
@@ -109,7 +109,7 @@ module _ (s : State) (b : List ℕ) (h : Stands s b) (fit : Fits s) where
       let w = byte-read 3 waitingAt waitingByte refl (omega arith) refl i low (flag-low (r .waiting)) in
       let t = byte-read 4 timedAt timedByte refl (omega arith) refl i low (flag-low (r .timed)) in
       let a = byte-read 5 lastAt (λ q. lastByte (q .last)) refl (omega arith) refl i low (last-low (r .last) .0) in
-      rw (le-leb (getD b (waitingAt + i) 0) 1 (omega (arith, w, bit-le (r .waiting))), le-leb (getD b (timedAt + i) 0) 1 (omega (arith, t, bit-le (r .timed))), le-leb (getD b (lastAt + i) 0) 3 (omega (arith, a, last-low (r .last) .1))))
+      rw (le-leb (getD b (waitingAt + i) 0) 1 (omega (arith, w, bit-le (r .waiting))), le-leb (getD b (timedAt + i) 0) 1 (omega (arith, t, bit-le (r .timed))), le-leb (getD b (lastAt + i) 0) maxLast (omega (arith, a, last-low (r .last) .1))))
 
   pub tables-back : tablesAt b ≡ s
   unfolding tablesAt

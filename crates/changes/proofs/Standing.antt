@@ -16,7 +16,7 @@ use Rattle.lists.proofs.LittleEndian.{le-bytes}
 use Rattle.tables.specs.declared.State.{State}
 use Rattle.tables.specs.Sizes.{threads}
 use Rattle.tables.specs.Tables.{arrivals, sizesOk, countOk, numbersOk, exactOk, tailOk, recordsOk, tablesOk}
-use Rattle.layout.specs.Layout.{columns, concat, tablesBytes, tablesSize, countAt, listAt}
+use Rattle.layout.specs.Layout.{timeBytes, columns, concat, tablesBytes, tablesSize, countAt, listAt}
 use Rattle.changes.specs.Change.{Whole, Stands}
 use Rattle.layout.proofs.Columns.{before, total, get-column}
 use Rattle.layout.proofs.Exact.{sizes}
@@ -70,9 +70,9 @@ module _ (s : State) (b : List ℕ) (h : Stands s b) where
   unfolding tablesBytes
   list-held = ap (λ l. take threads (drop listAt l)) (h .bytes) ∙ column-read (columns s) (sized s shape) 2 listAt threads (s .list) refl refl (shape .entries)
 
-  pub count-held : numberAt 8 countAt b ≡ s .count
+  pub count-held : numberAt timeBytes countAt b ≡ s .count
   unfolding tablesBytes
   count-held =
-      ap (λ l. le (take 8 (drop countAt l))) (h .bytes)
-      ∙ ap le (column-read (columns s) (sized s shape) 1 countAt 8 (bytes 8 (s .count)) refl refl refl)
-      ∙ le-bytes 8 (s .count) (omega (arith, few s (h .sound)))
+      ap (λ l. le (take timeBytes (drop countAt l))) (h .bytes)
+      ∙ ap le (column-read (columns s) (sized s shape) 1 countAt timeBytes (bytes timeBytes (s .count)) refl refl refl)
+      ∙ le-bytes timeBytes (s .count) (omega (arith, few s (h .sound)))

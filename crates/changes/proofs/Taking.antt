@@ -12,11 +12,11 @@ use Rattle.tables.specs.Tables.{arrivals}
 use Rattle.tables.specs.Steps.{Numbers, splitOf}
 use Rattle.tables.proofs.Sound.{tables-sound}
 use Rattle.tables.proofs.Stored.{list-numbers}
-use Rattle.layout.specs.Layout.{countAt, listAt}
+use Rattle.layout.specs.Layout.{timeBytes, countAt, listAt}
 use Rattle.changes.specs.Change.{Stands}
 use Rattle.changes.proofs.Standing.{list-held, count-held}
 
-module _ (s : State) (b : List ℕ) (h : Stands s b) (list : List ℕ) (count : ℕ) (read : list ≡ take threads (drop listAt b)) (counted : count ≡ numberAt 8 countAt b) where
+module _ (s : State) (b : List ℕ) (h : Stands s b) (list : List ℕ) (count : ℕ) (read : list ≡ take threads (drop listAt b)) (counted : count ≡ numberAt timeBytes countAt b) where
   list-is : list ≡ s .list
   list-is = read ∙ list-held s b h
 

@@ -10,9 +10,9 @@ use Rattle.lists.proofs.Stores.{sets-all}
 use Rattle.tables.specs.declared.State.{State}
 use Rattle.tables.specs.declared.Thread.{Thread}
 use Rattle.tables.specs.declared.LastAnswer.the-variants.{NoneYet}
-use Rattle.tables.specs.Sizes.{threads}
+use Rattle.tables.specs.Sizes.{threads, wordBytes}
 use Rattle.tables.specs.Tables.{running, threadOf, movedTo, withThreads, withClock}
-use Rattle.layout.specs.Layout.{column, columns, concat, tablesBytes, lastByte, waitingByte, timedByte, clockAt, countAt, listAt, waitingAt, timedAt, lastAt, uaddrAt, bitsetAt, deadlineAt}
+use Rattle.layout.specs.Layout.{timeBytes, column, columns, concat, tablesBytes, lastByte, waitingByte, timedByte, clockAt, countAt, listAt, waitingAt, timedAt, lastAt, uaddrAt, bitsetAt, deadlineAt}
 use Rattle.changes.specs.Change.{Whole}
 use Rattle.layout.proofs.Columns.{length-column, column-set, column-same, before, put-column}
 use Rattle.layout.proofs.Exact.{sizes}
@@ -50,8 +50,8 @@ module _ (s : State) (w : Whole s) where
 
   pub sized : map length (columns s) ≡ sizes
   sized =
-      λ i. 8 ∷ 8 ∷ w .entries i ∷ size-of 1 waitingByte i ∷ size-of 1 timedByte i ∷ size-of 1 (λ r. lastByte (r .last)) i
-      ∷ size-of 4 (λ r. r .uaddr) i ∷ size-of 4 (λ r. r .bitset) i ∷ size-of 8 (λ r. r .deadline) i ∷ []
+      λ i. timeBytes ∷ timeBytes ∷ w .entries i ∷ size-of 1 waitingByte i ∷ size-of 1 timedByte i ∷ size-of 1 (λ r. lastByte (r .last)) i
+      ∷ size-of wordBytes (λ r. r .uaddr) i ∷ size-of wordBytes (λ r. r .bitset) i ∷ size-of timeBytes (λ r. r .deadline) i ∷ []
 
   -- the record of a thread, field by field
   module _ (i : ℕ) (low : i < threads) (r : Thread) where
@@ -67,11 +67,11 @@ module _ (s : State) (w : Whole s) where
     -- the tables in columns, each of these or of those records
     abbrev half : List Thread → List Thread → List Thread → List Thread → List Thread → List Thread → List (List ℕ)
     half x3 x4 x5 x6 x7 x8 =
-        bytes 8 (s .clock) ∷ bytes 8 (s .count) ∷ s .list ∷ column 1 waitingByte x3 ∷ column 1 timedByte x4 ∷ column 1 (λ q. lastByte (q .last)) x5
-        ∷ column 4 (λ q. q .uaddr) x6 ∷ column 4 (λ q. q .bitset) x7 ∷ column 8 (λ q. q .deadline) x8 ∷ []
+        bytes timeBytes (s .clock) ∷ bytes timeBytes (s .count) ∷ s .list ∷ column 1 waitingByte x3 ∷ column 1 timedByte x4 ∷ column 1 (λ q. lastByte (q .last)) x5
+        ∷ column wordBytes (λ q. q .uaddr) x6 ∷ column wordBytes (λ q. q .bitset) x7 ∷ column timeBytes (λ q. q .deadline) x8 ∷ []
 
     pub thread-put : (b : List ℕ) → b ≡ tablesBytes s
-        → sets (sets (sets (sets (sets (sets b (waitingAt + i) (bytes 1 (waitingByte r))) (timedAt + i) (bytes 1 (timedByte r))) (lastAt + i) (bytes 1 (lastByte (r .last)))) (uaddrAt + 4 * i) (bytes 4 (r .uaddr))) (bitsetAt + 4 * i) (bytes 4 (r .bitset))) (deadlineAt + 8 * i) (bytes 8 (r .deadline))
+        → sets (sets (sets (sets (sets (sets b (waitingAt + i) (bytes 1 (waitingByte r))) (timedAt + i) (bytes 1 (timedByte r))) (lastAt + i) (bytes 1 (lastByte (r .last)))) (uaddrAt + wordBytes * i) (bytes wordBytes (r .uaddr))) (bitsetAt + wordBytes * i) (bytes wordBytes (r .bitset))) (deadlineAt + timeBytes * i) (bytes timeBytes (r .deadline))
         ≡ tablesBytes (withThreads (set (s .threads) i r) s)
     unfolding tablesBytes
     thread-put b is = p8 (p7 (p6 (p5 (p4 (p3 (record { stored = is; sized = sized })))))) .stored
@@ -85,18 +85,18 @@ module _ (s : State) (w : Whole s) where
         p5 : {l : List ℕ} → InColumns l (half us us ts ts ts ts) → InColumns (sets l (lastAt + i) (bytes 1 (lastByte (r .last)))) (half us us us ts ts ts)
         p5 {l} c = put l (half us us ts ts ts ts) (half us us us ts ts ts) c 5 (1 * i) (lastAt + i) (bytes 1 (lastByte (r .last))) (omega arith) (omega arith) _ (new 1 (λ q. lastByte (q .last))) refl
 
-        p6 : {l : List ℕ} → InColumns l (half us us us ts ts ts) → InColumns (sets l (uaddrAt + 4 * i) (bytes 4 (r .uaddr))) (half us us us us ts ts)
-        p6 {l} c = put l (half us us us ts ts ts) (half us us us us ts ts) c 6 (4 * i) (uaddrAt + 4 * i) (bytes 4 (r .uaddr)) (omega arith) (omega arith) _ (new 4 (λ q. q .uaddr)) refl
+        p6 : {l : List ℕ} → InColumns l (half us us us ts ts ts) → InColumns (sets l (uaddrAt + wordBytes * i) (bytes wordBytes (r .uaddr))) (half us us us us ts ts)
+        p6 {l} c = put l (half us us us ts ts ts) (half us us us us ts ts) c 6 (wordBytes * i) (uaddrAt + wordBytes * i) (bytes wordBytes (r .uaddr)) (omega arith) (omega arith) _ (new wordBytes (λ q. q .uaddr)) refl
 
-        p7 : {l : List ℕ} → InColumns l (half us us us us ts ts) → InColumns (sets l (bitsetAt + 4 * i) (bytes 4 (r .bitset))) (half us us us us us ts)
-        p7 {l} c = put l (half us us us us ts ts) (half us us us us us ts) c 7 (4 * i) (bitsetAt + 4 * i) (bytes 4 (r .bitset)) (omega arith) (omega arith) _ (new 4 (λ q. q .bitset)) refl
+        p7 : {l : List ℕ} → InColumns l (half us us us us ts ts) → InColumns (sets l (bitsetAt + wordBytes * i) (bytes wordBytes (r .bitset))) (half us us us us us ts)
+        p7 {l} c = put l (half us us us us ts ts) (half us us us us us ts) c 7 (wordBytes * i) (bitsetAt + wordBytes * i) (bytes wordBytes (r .bitset)) (omega arith) (omega arith) _ (new wordBytes (λ q. q .bitset)) refl
 
-        p8 : {l : List ℕ} → InColumns l (half us us us us us ts) → InColumns (sets l (deadlineAt + 8 * i) (bytes 8 (r .deadline))) (half us us us us us us)
-        p8 {l} c = put l (half us us us us us ts) (half us us us us us us) c 8 (8 * i) (deadlineAt + 8 * i) (bytes 8 (r .deadline)) (omega arith) (omega arith) _ (new 8 (λ q. q .deadline)) refl
+        p8 : {l : List ℕ} → InColumns l (half us us us us us ts) → InColumns (sets l (deadlineAt + timeBytes * i) (bytes timeBytes (r .deadline))) (half us us us us us us)
+        p8 {l} c = put l (half us us us us us ts) (half us us us us us us) c 8 (timeBytes * i) (deadlineAt + timeBytes * i) (bytes timeBytes (r .deadline)) (omega arith) (omega arith) _ (new timeBytes (λ q. q .deadline)) refl
 
   -- the address of a thread
   pub address-put : (i a : ℕ) → i < threads → (b : List ℕ) → b ≡ tablesBytes s
-      → sets b (uaddrAt + 4 * i) (bytes 4 a) ≡ tablesBytes (withThreads (set (s .threads) i (movedTo a (threadOf s i))) s)
+      → sets b (uaddrAt + wordBytes * i) (bytes wordBytes a) ≡ tablesBytes (withThreads (set (s .threads) i (movedTo a (threadOf s i))) s)
   unfolding tablesBytes
   address-put i a low b is =
       let r = movedTo a (threadOf s i) in
@@ -106,34 +106,34 @@ module _ (s : State) (w : Whole s) where
       let e3 = same 1 waitingByte refl in
       let e4 = same 1 timedByte refl in
       let e5 = same 1 (λ q. lastByte (q .last)) refl in
-      let e7 = same 4 (λ q. q .bitset) refl in
-      let e8 = same 8 (λ q. q .deadline) refl in
-      put b (columns s) _ (record { stored = is; sized = sized }) 6 (4 * i) (uaddrAt + 4 * i) (bytes 4 a) (omega arith) (omega arith)
-      (column 4 (λ q. q .uaddr) ts) (new i low r 4 (λ q. q .uaddr)) refl .stored
-      ∙ (λ j. concat (bytes 8 (s .clock) ∷ bytes 8 (s .count) ∷ s .list ∷ e3 j ∷ e4 j ∷ e5 j ∷ column 4 (λ q. q .uaddr) ts ∷ e7 j ∷ e8 j ∷ []))
+      let e7 = same wordBytes (λ q. q .bitset) refl in
+      let e8 = same timeBytes (λ q. q .deadline) refl in
+      put b (columns s) _ (record { stored = is; sized = sized }) 6 (wordBytes * i) (uaddrAt + wordBytes * i) (bytes wordBytes a) (omega arith) (omega arith)
+      (column wordBytes (λ q. q .uaddr) ts) (new i low r wordBytes (λ q. q .uaddr)) refl .stored
+      ∙ (λ j. concat (bytes timeBytes (s .clock) ∷ bytes timeBytes (s .count) ∷ s .list ∷ e3 j ∷ e4 j ∷ e5 j ∷ column wordBytes (λ q. q .uaddr) ts ∷ e7 j ∷ e8 j ∷ []))
 
   -- the list, or one entry of it, and the count
   counted : (l : List ℕ) (b : List ℕ) (n : ℕ) → InColumns b (set (columns s) 2 l)
-      → sets b countAt (bytes 8 n) ≡ tablesBytes (record { clock = s .clock; threads = s .threads; list = l; count = n })
+      → sets b countAt (bytes timeBytes n) ≡ tablesBytes (record { clock = s .clock; threads = s .threads; list = l; count = n })
   unfolding tablesBytes
   counted l b n c =
-      put b (set (columns s) 2 l) _ c 1 0 countAt (bytes 8 n) refl (omega arith) (bytes 8 n) (sets-all (bytes 8 (s .count)) (bytes 8 n) refl) refl .stored
+      put b (set (columns s) 2 l) _ c 1 0 countAt (bytes timeBytes n) refl (omega arith) (bytes timeBytes n) (sets-all (bytes timeBytes (s .count)) (bytes timeBytes n) refl) refl .stored
 
   pub list-put : (list : List ℕ) (n : ℕ) → length list ≡ threads → (b : List ℕ) → b ≡ tablesBytes s
-      → sets (sets b listAt list) countAt (bytes 8 n) ≡ tablesBytes (record { clock = s .clock; threads = s .threads; list = list; count = n })
+      → sets (sets b listAt list) countAt (bytes timeBytes n) ≡ tablesBytes (record { clock = s .clock; threads = s .threads; list = list; count = n })
   unfolding tablesBytes
   list-put list n long b is =
       counted list (sets b listAt list) n
       (put b (columns s) (set (columns s) 2 list) (record { stored = is; sized = sized }) 2 0 listAt list refl (omega (arith, long)) list (sets-all (s .list) list (w .entries ∙ sym long)) refl)
 
   pub entry-put : (k t n : ℕ) → k < threads → (b : List ℕ) → b ≡ tablesBytes s
-      → sets (set b (listAt + k) t) countAt (bytes 8 n) ≡ tablesBytes (record { clock = s .clock; threads = s .threads; list = set (s .list) k t; count = n })
+      → sets (set b (listAt + k) t) countAt (bytes timeBytes n) ≡ tablesBytes (record { clock = s .clock; threads = s .threads; list = set (s .list) k t; count = n })
   unfolding tablesBytes
   entry-put k t n low b is =
       counted (set (s .list) k t) (set b (listAt + k) t) n
       (put b (columns s) (set (columns s) 2 (set (s .list) k t)) (record { stored = is; sized = sized }) 2 k (listAt + k) (t ∷ []) refl (omega arith) (set (s .list) k t) refl refl)
 
-  pub clock-put : (now : ℕ) (b : List ℕ) → b ≡ tablesBytes s → sets b clockAt (bytes 8 now) ≡ tablesBytes (withClock now s)
+  pub clock-put : (now : ℕ) (b : List ℕ) → b ≡ tablesBytes s → sets b clockAt (bytes timeBytes now) ≡ tablesBytes (withClock now s)
   unfolding tablesBytes
   clock-put now b is =
-      put b (columns s) _ (record { stored = is; sized = sized }) 0 0 clockAt (bytes 8 now) refl (omega arith) (bytes 8 now) (sets-all (bytes 8 (s .clock)) (bytes 8 now) refl) refl .stored
+      put b (columns s) _ (record { stored = is; sized = sized }) 0 0 clockAt (bytes timeBytes now) refl (omega arith) (bytes timeBytes now) (sets-all (bytes timeBytes (s .clock)) (bytes timeBytes now) refl) refl .stored

@@ -2,12 +2,12 @@
 use mathlib.Core.Path.{_≡_}
 use mathlib.Core.Bool.{true}
 use mathlib.Core.List.{List}
-use Prim.Native.Nat.{ℕ, _^_, _<_}
+use Prim.Native.Nat.{ℕ, _<_}
 use lib.ListN.{length}
 use Rattle.tables.specs.declared.State.{State}
 use Rattle.tables.specs.declared.Thread.{Thread}
 use Rattle.tables.specs.declared.Taken.{Taken}
-use Rattle.tables.specs.Sizes.{threads}
+use Rattle.tables.specs.Sizes.{threads, wordLimit, timeLimit}
 use Rattle.tables.specs.Tables.{threadOf, tablesOk}
 use Rattle.layout.specs.Layout.{tablesBytes}
 
@@ -25,24 +25,26 @@ pub record Stands (s : State) (b : List ℕ) : Type 0 where
   pub bytes : b ≡ tablesBytes s
   pub sound : tablesOk s ≡ true
 
+-- the bytes of some tables that keep the rules
 pub record Standing (b : List ℕ) : Type 0 where
   pub state : State
   pub stands : Stands state b
 
--- a change that takes sleepers: how many, and the bytes of the tables that it leaves
-pub record Took (t : Taken) (n : ℕ) (after : List ℕ) : Type 0 where
+-- what a change that takes sleepers hands back on bytes: how many it took, and the bytes of the tables that it leaves
+pub record TakenBytes (t : Taken) (n : ℕ) (after : List ℕ) : Type 0 where
   pub number : n ≡ t .n
   pub bytes : after ≡ tablesBytes (t .state)
 
-abbrev pub Takes : (State → Taken) → List ℕ → ℕ → List ℕ → Type 0
-Takes f b n after = (s : State) → Stands s b → Took (f s) n after
+-- Bytes of tables that keep the rules become those that the change leaves.
+abbrev pub WritesTaken : (State → Taken) → List ℕ → ℕ → List ℕ → Type 0
+WritesTaken f b n after = (s : State) → Stands s b → TakenBytes (f s) n after
 
 -- each number fits its field, as in all tables that code holds
 pub record FitsThread (r : Thread) : Type 0 where
-  pub uaddr : r .uaddr < 256 ^ 4
-  pub bitset : r .bitset < 256 ^ 4
-  pub deadline : r .deadline < 256 ^ 8
+  pub uaddr : r .uaddr < wordLimit
+  pub bitset : r .bitset < wordLimit
+  pub deadline : r .deadline < timeLimit
 
 pub record Fits (s : State) : Type 0 where
-  pub clock : s .clock < 256 ^ 8
+  pub clock : s .clock < timeLimit
   pub records : (i : ℕ) → i < threads → FitsThread (threadOf s i)

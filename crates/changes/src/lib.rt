@@ -9,7 +9,7 @@ ghost use Rattle.tables.specs.Tables.{change, withThreads, asleepAt, fallAsleep
 ghost use Rattle.tables.specs.Steps.{Numbers, changedBy, flagged, endFirst, moveFirst};
 ghost use Rattle.layout.specs.Layout.{lastByte, tablesSize, stateAt, tablesBytes};
 ghost use Rattle.layout.specs.Check.{Held};
-ghost use Rattle.changes.specs.Change.{Writes, Standing, Takes};
+ghost use Rattle.changes.specs.Change.{Writes, Standing, WritesTaken};
 use arrivals::index_of;
 use arrivals::joined;
 use arrivals::split;
@@ -18,9 +18,11 @@ use layout::COUNT_AT;
 use layout::DEADLINE_AT;
 use layout::LAST_AT;
 use layout::LIST_AT;
+use layout::TIME_SIZE;
 use layout::TIMED_AT;
 use layout::UADDR_AT;
 use layout::WAITING_AT;
+use layout::WORD_SIZE;
 use layout::read::list_at;
 use layout::read::thread_at;
 use numbers::put_u32;
@@ -59,9 +61,9 @@ fn put_thread(b: &mut [u8], i: usize, t: Thread)
     b[WAITING_AT + i] = waiting;
     b[TIMED_AT + i] = timed;
     b[LAST_AT + i] = answer;
-    put_u32(b, UADDR_AT + 4 * i, t.uaddr);
-    put_u32(b, BITSET_AT + 4 * i, t.bitset);
-    put_u64(b, DEADLINE_AT + 8 * i, t.deadline);
+    put_u32(b, UADDR_AT + WORD_SIZE * i, t.uaddr);
+    put_u32(b, BITSET_AT + WORD_SIZE * i, t.bitset);
+    put_u64(b, DEADLINE_AT + TIME_SIZE * i, t.deadline);
 }
 
 // The arrival list and its count.
@@ -99,7 +101,7 @@ fn move_all(b: &mut [u8], ts: [u8; THREADS], n: usize, uaddr: u32)
     let mut i: usize = 0;
     while i < n {
         let x = index_of(ts[i]);
-        put_u32(b, UADDR_AT + 4 * x, uaddr);
+        put_u32(b, UADDR_AT + WORD_SIZE * x, uaddr);
         i += 1;
     }
 }
@@ -108,7 +110,7 @@ fn move_all(b: &mut [u8], ts: [u8; THREADS], n: usize, uaddr: u32)
 // tables that keep the rules.
 pub fn end_first(b: &mut [u8], flags: [bool; THREADS], cap: usize, last: LastAnswer) -> u32
     requires { ⌜ Standing (now b) ⌝ }
-    ensures { λ r. ⌜ Takes (endFirst last (flagged flags) cap) (now (b .entry)) r (now (b .exit)) ⌝ }
+    ensures { λ r. ⌜ WritesTaken (endFirst last (flagged flags) cap) (now (b .entry)) r (now (b .exit)) ⌝ }
 {
     let list = list_at(b);
     let count = u64_at(b, COUNT_AT) as usize;
@@ -123,7 +125,7 @@ pub fn end_first(b: &mut [u8], flags: [bool; THREADS], cap: usize, last: LastAns
 // The first cap sleepers whose flag is set move to the address, and to the end of the list; how many.
 pub fn move_first(b: &mut [u8], flags: [bool; THREADS], cap: usize, uaddr: u32) -> u32
     requires { ⌜ Standing (now b) ⌝ }
-    ensures { λ r. ⌜ Takes (moveFirst uaddr (flagged flags) cap) (now (b .entry)) r (now (b .exit)) ⌝ }
+    ensures { λ r. ⌜ WritesTaken (moveFirst uaddr (flagged flags) cap) (now (b .entry)) r (now (b .exit)) ⌝ }
 {
     let list = list_at(b);
     let count = u64_at(b, COUNT_AT) as usize;

@@ -1,7 +1,7 @@
 // Commands: what an op stands for, and what a call's arguments mean to its command. It stands on rules.
 ghost use mathlib.Core.Path.{_≡_};
 ghost use mathlib.Core.Bool.{cond};
-ghost use Prim.Native.Nat.{_+_, _-_, _*_, _<_, min};
+ghost use Prim.Native.Nat.{_+_, _-_, min};
 ghost use Rattle.tables.specs.Sizes.{timeLimit, matchAny};
 ghost use Rattle.rules.specs.Commands.{numbered, commandOf, notImplemented, uses};
 ghost use Rattle.rules.specs.Calls.{secondCap, timeoutGiven};
@@ -18,7 +18,10 @@ const PRIVATE_BIT: u32 = 128;
 
 const CLOCK_BIT: u32 = 256;
 
-const MATCH_ANY: u32 = 4294967295;
+// Every number of 32 bits is below this, and MATCH_ANY is the last of them (FUTEX_BITSET_MATCH_ANY).
+const WORD_LIMIT: u64 = 1 << 32;
+
+const MATCH_ANY: u32 = (WORD_LIMIT - 1) as u32;
 
 const LAST_TIME: u64 = 18446744073709551615;
 
@@ -92,7 +95,7 @@ fn uses(k: Command) -> Uses
 pub fn second_cap(c: Call) -> u32
     ensures { λ r. ⌜ r ≡ secondCap c ⌝ }
 {
-    (c.timeout % 4294967296) as u32
+    (c.timeout % WORD_LIMIT) as u32
 }
 
 pub fn timeout_given(c: Call) -> bool

@@ -9,7 +9,7 @@ use Rattle.lists.specs.Lists.{filter, elem, without}
 use Rattle.lists.proofs.Tests.{cases, clash}
 use Rattle.lists.proofs.Filter.{filter-comm}
 use Rattle.lists.proofs.Occurs.{filter-agree}
-use Rattle.lists.proofs.Loops.{without-taken, filter-passed, length-parts}
+use Rattle.lists.proofs.Loops.{without-taken, filter-leftOver, length-parts}
 use Rattle.tables.specs.declared.State.{State}
 use Rattle.tables.specs.declared.Taken.{Taken}
 use Rattle.tables.specs.declared.LastAnswer.{LastAnswer}
@@ -69,7 +69,7 @@ module _ (k : Command) (c : Call) (s : State) (g : Sound s) (f : ℕ → Bool)
   unfolding endFirst
   left =
       ap (filter f) (arrivals-end Woken (take (c .val) (filter f (arrivals s))) s ∙ without-taken f (arrivals s) (c .val) (once s g))
-      ∙ filter-passed f (arrivals s) (c .val)
+      ∙ filter-leftOver f (arrivals s) (c .val)
       ∙ ap (drop (c .val)) is
 
   abbrev next : Taken

@@ -18,7 +18,7 @@ use Rattle.tables.specs.Sizes.{threads}
 use Rattle.tables.specs.Tables.{threadOf, arrivals, sizesOk, recordOk, recordsOk, tailOk, tablesOk}
 use Rattle.tables.specs.Steps.{flagged, SeenIn}
 use Rattle.tables.proofs.Checked.{checked}
-use Rattle.layout.specs.Layout.{threadAt, stateAt, tablesAt, tablesSize, flagsOk, waitingAt, timedAt, lastAt, listAt}
+use Rattle.layout.specs.Layout.{maxLast, threadAt, stateAt, tablesAt, tablesSize, flagsOk, waitingAt, timedAt, lastAt, listAt}
 use Rattle.layout.specs.Check.{flagsFit, agrees, placeOk, placeFits, timeOk, timeFits, Held}
 use Rattle.layout.proofs.Reading.{thread-read}
 use Rattle.layout.proofs.Exact.{tables-exact}
@@ -36,11 +36,11 @@ unfolding recordOk
 record-rules now r = two-rules (r .waiting) (r .timed) _ _ _ _
 
 -- a byte that is at most another, which is 0 or 1
-flag-rules : (w t l : ℕ) → (leb w 1 && leb t w && leb l 3) ≡ (leb w 1 && leb t 1 && leb l 3 && (not (eqb t 1) || eqb w 1))
-flag-rules zero zero l = sym (and-true (leb l 3))
-flag-rules zero (suc zero) l = sym (and-false (leb l 3))
+flag-rules : (w t l : ℕ) → (leb w 1 && leb t w && leb l maxLast) ≡ (leb w 1 && leb t 1 && leb l maxLast && (not (eqb t 1) || eqb w 1))
+flag-rules zero zero l = sym (and-true (leb l maxLast))
+flag-rules zero (suc zero) l = sym (and-false (leb l maxLast))
 flag-rules zero (suc (suc t)) l = rw (lt-leb (suc (suc t)) 0 (omega arith), lt-leb (suc (suc t)) 1 (omega arith))
-flag-rules (suc zero) t l = sym (ap (λ b. leb t 1 && leb l 3 && b) (or-true (not (eqb t 1))) ∙ and-true (leb t 1 && leb l 3))
+flag-rules (suc zero) t l = sym (ap (λ b. leb t 1 && leb l maxLast && b) (or-true (not (eqb t 1))) ∙ and-true (leb t 1 && leb l maxLast))
 flag-rules (suc (suc w)) t l = rw (lt-leb (suc (suc w)) 1 (omega arith))
 
 and-move : (f q p t : Bool) → (f && q && p && t) ≡ (f && (q && p && t))

@@ -14,12 +14,12 @@ use Rattle.lists.proofs.Tests.{and-left, and-right}
 use Rattle.lists.proofs.Count.{everyBelow-at}
 use Rattle.tables.specs.declared.Thread.{Thread}
 use Rattle.tables.specs.Sizes.{threads, wordBytes}
-use Rattle.layout.specs.Layout.{column, columns, concat, threadAt, stateAt, tablesBytes, tablesSize, lastByte, lastOf, waitingByte, timedByte, flagsOk, clockAt, countAt, listAt, waitingAt, timedAt, lastAt, uaddrAt, bitsetAt, deadlineAt, wordsBytes, wordsOf}
+use Rattle.layout.specs.Layout.{timeBytes, column, columns, concat, threadAt, stateAt, tablesBytes, tablesSize, lastByte, maxLast, lastOf, waitingByte, timedByte, flagsOk, clockAt, countAt, listAt, waitingAt, timedAt, lastAt, uaddrAt, bitsetAt, deadlineAt, wordsBytes, wordsOf}
 use Rattle.layout.proofs.Columns.{exact, column-tabulate, cuts, concat-cuts}
 
 -- the sizes of the columns
 abbrev pub sizes : List ℕ
-sizes = 8 ∷ 8 ∷ threads ∷ threads ∷ threads ∷ threads ∷ 4 * threads ∷ 4 * threads ∷ 8 * threads ∷ []
+sizes = timeBytes ∷ timeBytes ∷ threads ∷ threads ∷ threads ∷ threads ∷ wordBytes * threads ∷ wordBytes * threads ∷ timeBytes * threads ∷ []
 
 -- one byte at a place
 one-byte : (b : List ℕ) (k v : ℕ) → k < length b → v ≡ getD b k 0 → v < 256 → bytes 1 v ≡ take 1 (drop k b)
@@ -32,7 +32,7 @@ bit-of zero h = refl
 bit-of (suc zero) h = refl
 bit-of (suc (suc n)) h = absurd (omega arith)
 
-last-of : (n : ℕ) → n ≤ 3 → lastByte (lastOf n) ≡ n
+last-of : (n : ℕ) → n ≤ maxLast → lastByte (lastOf n) ≡ n
 last-of zero h = refl
 last-of (suc zero) h = refl
 last-of (suc (suc zero)) h = refl
@@ -40,14 +40,14 @@ last-of (suc (suc (suc zero))) h = refl
 last-of (suc (suc (suc (suc n)))) h = absurd (omega arith)
 
 module _ (b : List ℕ) (size : length b ≡ tablesSize) (flags : everyBelow threads (flagsOk b) ≡ true) (h : Bytes b) where
-  low : (i : ℕ) → i < threads → (getD b (waitingAt + i) 0 ≤ 1) × (getD b (timedAt + i) 0 ≤ 1) × (getD b (lastAt + i) 0 ≤ 3)
+  low : (i : ℕ) → i < threads → (getD b (waitingAt + i) 0 ≤ 1) × (getD b (timedAt + i) 0 ≤ 1) × (getD b (lastAt + i) 0 ≤ maxLast)
   low i l =
       let w = leb (getD b (waitingAt + i) 0) 1 in
       let t = leb (getD b (timedAt + i) 0) 1 in
-      let a = leb (getD b (lastAt + i) 0) 3 in
+      let a = leb (getD b (lastAt + i) 0) maxLast in
       let f = everyBelow-at threads (flagsOk b) flags i l in
       let wt = and-left (w && t) a f in
-      (leb-true _ 1 (and-left w t wt), leb-true _ 1 (and-right w t wt), leb-true _ 3 (and-right (w && t) a f))
+      (leb-true _ 1 (and-left w t wt), leb-true _ 1 (and-right w t wt), leb-true _ maxLast (and-right (w && t) a f))
 
   -- a column of bytes, and one of numbers
   byte-column : (f : Thread → ℕ) (at : ℕ) → at + threads ≤ tablesSize
@@ -67,14 +67,14 @@ module _ (b : List ℕ) (size : length b ≡ tablesSize) (flags : everyBelow thr
   columns-cut : columns (stateAt b) ≡ cuts 0 sizes b
   unfolding stateAt
   columns-cut =
-      let clock = exact b h 8 clockAt (omega (arith, size)) in
-      let count = exact b h 8 countAt (omega (arith, size)) in
+      let clock = exact b h timeBytes clockAt (omega (arith, size)) in
+      let count = exact b h timeBytes countAt (omega (arith, size)) in
       let waiting = byte-column waitingByte waitingAt (omega arith) (λ i l. bit-of _ (low i l .0)) in
       let timed = byte-column timedByte timedAt (omega arith) (λ i l. bit-of _ (low i l .1)) in
       let last = byte-column (λ r. lastByte (r .last)) lastAt (omega arith) (λ i l. last-of _ (low i l .2)) in
-      let uaddr = number-column 4 (λ r. r .uaddr) uaddrAt (λ i l. omega arith) (λ i. refl) in
-      let bitset = number-column 4 (λ r. r .bitset) bitsetAt (λ i l. omega arith) (λ i. refl) in
-      let deadline = number-column 8 (λ r. r .deadline) deadlineAt (λ i l. omega arith) (λ i. refl) in
+      let uaddr = number-column wordBytes (λ r. r .uaddr) uaddrAt (λ i l. omega arith) (λ i. refl) in
+      let bitset = number-column wordBytes (λ r. r .bitset) bitsetAt (λ i l. omega arith) (λ i. refl) in
+      let deadline = number-column timeBytes (λ r. r .deadline) deadlineAt (λ i l. omega arith) (λ i. refl) in
       λ j. clock j ∷ count j ∷ take threads (drop listAt b) ∷ waiting j ∷ timed j ∷ last j ∷ uaddr j ∷ bitset j ∷ deadline j ∷ []
 
   pub tables-exact : b ≡ tablesBytes (stateAt b)

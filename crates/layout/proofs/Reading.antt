@@ -8,17 +8,17 @@ use Rattle.lists.proofs.Tabulate.{getD-tabulate}
 use Rattle.tables.specs.declared.LastAnswer.the-variants.{NoneYet}
 use Rattle.tables.specs.Sizes.{threads}
 use Rattle.tables.specs.Tables.{running, threadOf}
-use Rattle.layout.specs.Layout.{clockAt, countAt, listAt, threadAt, stateAt}
+use Rattle.layout.specs.Layout.{timeBytes, clockAt, countAt, listAt, threadAt, stateAt}
 
 pub thread-read : (b : List ℕ) (t : ℕ) → t < threads → threadOf (stateAt b) t ≡ threadAt b t
 unfolding stateAt
 thread-read b t h = getD-tabulate threads (threadAt b) t (running NoneYet) h
 
-pub count-read : (b : List ℕ) → numberAt 8 countAt b ≡ stateAt b .count
+pub count-read : (b : List ℕ) → numberAt timeBytes countAt b ≡ stateAt b .count
 unfolding stateAt
 count-read b = refl
 
-pub clock-read : (b : List ℕ) → numberAt 8 clockAt b ≡ stateAt b .clock
+pub clock-read : (b : List ℕ) → numberAt timeBytes clockAt b ≡ stateAt b .clock
 unfolding stateAt
 clock-read b = refl
 

@@ -12,6 +12,10 @@ use Rattle.tables.specs.declared.LastAnswer.{LastAnswer}
 use Rattle.tables.specs.declared.LastAnswer.the-variants.{NoneYet, Woken, TimedOut, Interrupted}
 use Rattle.tables.specs.Sizes.{threads, wordBytes, memoryWords}
 
+-- a time has "64 bits"; the count of the list is stored as widely
+abbrev pub timeBytes : ℕ
+timeBytes = 8
+
 -- one number of each element, in their order, w bytes each
 module _ {A : Type 0} where
   abbrev pub column : ℕ → (A → ℕ) → List A → List ℕ
@@ -29,6 +33,10 @@ lastByte Woken = 1
 lastByte TimedOut = 2
 lastByte Interrupted = 3
 
+-- no greater byte stands for a last answer
+abbrev pub maxLast : ℕ
+maxLast = 3
+
 abbrev pub waitingByte : Thread → ℕ
 waitingByte r = bit (r .waiting)
 
@@ -38,15 +46,15 @@ timedByte r = bit (r .timed)
 -- the tables in columns: clock, count, list, then a column for each field of the records
 abbrev pub columns : State → List (List ℕ)
 columns s =
-    bytes 8 (s .clock)
-    ∷ bytes 8 (s .count)
+    bytes timeBytes (s .clock)
+    ∷ bytes timeBytes (s .count)
     ∷ s .list
     ∷ column 1 waitingByte (s .threads)
     ∷ column 1 timedByte (s .threads)
     ∷ column 1 (λ r. lastByte (r .last)) (s .threads)
-    ∷ column 4 (λ r. r .uaddr) (s .threads)
-    ∷ column 4 (λ r. r .bitset) (s .threads)
-    ∷ column 8 (λ r. r .deadline) (s .threads)
+    ∷ column wordBytes (λ r. r .uaddr) (s .threads)
+    ∷ column wordBytes (λ r. r .bitset) (s .threads)
+    ∷ column timeBytes (λ r. r .deadline) (s .threads)
     ∷ []
 
 -- the bytes of tables
@@ -58,10 +66,10 @@ abbrev pub clockAt : ℕ
 clockAt = 0
 
 abbrev pub countAt : ℕ
-countAt = clockAt + 8
+countAt = clockAt + timeBytes
 
 abbrev pub listAt : ℕ
-listAt = countAt + 8
+listAt = countAt + timeBytes
 
 abbrev pub waitingAt : ℕ
 waitingAt = listAt + threads
@@ -76,13 +84,13 @@ abbrev pub uaddrAt : ℕ
 uaddrAt = lastAt + threads
 
 abbrev pub bitsetAt : ℕ
-bitsetAt = uaddrAt + 4 * threads
+bitsetAt = uaddrAt + wordBytes * threads
 
 abbrev pub deadlineAt : ℕ
-deadlineAt = bitsetAt + 4 * threads
+deadlineAt = bitsetAt + wordBytes * threads
 
 abbrev pub tablesSize : ℕ
-tablesSize = deadlineAt + 8 * threads
+tablesSize = deadlineAt + timeBytes * threads
 
 abbrev pub lastOf : ℕ → LastAnswer
 lastOf n = cond (eqb n 0) NoneYet (cond (eqb n 1) Woken (cond (eqb n 2) TimedOut Interrupted))
@@ -92,25 +100,25 @@ abbrev pub threadAt : List ℕ → ℕ → Thread
 threadAt b i =
     record {
       waiting = eqb (getD b (waitingAt + i) 0) 1;
-      uaddr = numberAt 4 (uaddrAt + 4 * i) b;
-      bitset = numberAt 4 (bitsetAt + 4 * i) b;
+      uaddr = numberAt wordBytes (uaddrAt + wordBytes * i) b;
+      bitset = numberAt wordBytes (bitsetAt + wordBytes * i) b;
       timed = eqb (getD b (timedAt + i) 0) 1;
-      deadline = numberAt 8 (deadlineAt + 8 * i) b;
+      deadline = numberAt timeBytes (deadlineAt + timeBytes * i) b;
       last = lastOf (getD b (lastAt + i) 0);
     }
 
 unfoldable pub stateAt : List ℕ → State
 stateAt b =
     record {
-      clock = numberAt 8 clockAt b;
+      clock = numberAt timeBytes clockAt b;
       threads = tabulate threads (threadAt b);
       list = take threads (drop listAt b);
-      count = numberAt 8 countAt b;
+      count = numberAt timeBytes countAt b;
     }
 
 -- the bytes of thread i that are not numbers stand for something
 abbrev pub flagsOk : List ℕ → ℕ → Bool
-flagsOk b i = leb (getD b (waitingAt + i) 0) 1 && leb (getD b (timedAt + i) 0) 1 && leb (getD b (lastAt + i) 0) 3
+flagsOk b i = leb (getD b (waitingAt + i) 0) 1 && leb (getD b (timedAt + i) 0) 1 && leb (getD b (lastAt + i) 0) maxLast
 
 -- "tables of a wrong length, or with a byte that stands for nothing"
 abbrev pub formOk : List ℕ → Bool

@@ -12,9 +12,11 @@ use crate::COUNT_AT;
 use crate::DEADLINE_AT;
 use crate::LAST_AT;
 use crate::TABLES_SIZE;
+use crate::TIME_SIZE;
 use crate::TIMED_AT;
 use crate::UADDR_AT;
 use crate::WAITING_AT;
+use crate::WORD_SIZE;
 use crate::read::list_at;
 use arrivals::seen_in;
 use arrivals::tail_ok;
@@ -23,6 +25,9 @@ use numbers::u64_at;
 use tables::PROCESS_BYTES;
 use tables::THREADS;
 use tables::WORD_BYTES;
+
+// No greater byte stands for a last answer.
+const MAX_LAST: u8 = 3;
 
 // The flags of each thread stand for something, none but a sleeper has a deadline, and the marked threads are the waiting ones.
 fn flags_ok(b: &[u8], marks: [bool; THREADS]) -> bool
@@ -36,7 +41,10 @@ fn flags_ok(b: &[u8], marks: [bool; THREADS]) -> bool
         let timed = b[TIMED_AT + i];
         let last = b[LAST_AT + i];
         ok = ok
-            & ((waiting <= 1) & (timed <= waiting) & (last <= 3) & (marks[i] == (waiting == 1)));
+            & ((waiting <= 1)
+                & (timed <= waiting)
+                & (last <= MAX_LAST)
+                & (marks[i] == (waiting == 1)));
         i += 1;
     }
     ok
@@ -61,8 +69,8 @@ fn places_ok(b: &[u8]) -> bool
     let mut i: usize = 0;
     while i < THREADS {
         let waiting = b[WAITING_AT + i];
-        let uaddr = u32_at(b, UADDR_AT + 4 * i);
-        let bitset = u32_at(b, BITSET_AT + 4 * i);
+        let uaddr = u32_at(b, UADDR_AT + WORD_SIZE * i);
+        let bitset = u32_at(b, BITSET_AT + WORD_SIZE * i);
         let good = place_ok(waiting == 1, uaddr, bitset);
         ok = ok & good;
         i += 1;
@@ -84,7 +92,7 @@ fn times_ok(b: &[u8], clock: u64) -> bool
     let mut i: usize = 0;
     while i < THREADS {
         let timed = b[TIMED_AT + i];
-        let deadline = u64_at(b, DEADLINE_AT + 8 * i);
+        let deadline = u64_at(b, DEADLINE_AT + TIME_SIZE * i);
         let good = time_ok(timed == 1, deadline, clock);
         ok = ok & good;
         i += 1;

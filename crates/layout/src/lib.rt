@@ -3,13 +3,19 @@ pub mod check;
 pub mod read;
 
 use tables::THREADS;
+use tables::WORD_BYTES;
+
+// The bytes of a word, as an address and a mask have them, and of a time or the count.
+pub const WORD_SIZE: usize = WORD_BYTES as usize;
+
+pub const TIME_SIZE: usize = 8;
 
 // Where each column of the tables begins.
 pub const CLOCK_AT: usize = 0;
 
-pub const COUNT_AT: usize = CLOCK_AT + 8;
+pub const COUNT_AT: usize = CLOCK_AT + TIME_SIZE;
 
-pub const LIST_AT: usize = COUNT_AT + 8;
+pub const LIST_AT: usize = COUNT_AT + TIME_SIZE;
 
 pub const WAITING_AT: usize = LIST_AT + THREADS;
 
@@ -19,8 +25,8 @@ pub const LAST_AT: usize = TIMED_AT + THREADS;
 
 pub const UADDR_AT: usize = LAST_AT + THREADS;
 
-pub const BITSET_AT: usize = UADDR_AT + 4 * THREADS;
+pub const BITSET_AT: usize = UADDR_AT + WORD_SIZE * THREADS;
 
-pub const DEADLINE_AT: usize = BITSET_AT + 4 * THREADS;
+pub const DEADLINE_AT: usize = BITSET_AT + WORD_SIZE * THREADS;
 
-pub const TABLES_SIZE: usize = DEADLINE_AT + 8 * THREADS;
+pub const TABLES_SIZE: usize = DEADLINE_AT + TIME_SIZE * THREADS;

@@ -1,7 +1,7 @@
 // What the bytes of the tables stand for: a record, the list, and the threads that pass a test.
 ghost use mathlib.Core.Path.{_≡_};
 ghost use mathlib.Core.Bool.{_&&_, _||_};
-ghost use Prim.Native.Nat.{_+_, _<_};
+ghost use Prim.Native.Nat.{_<_};
 ghost use lib.ListN.{length, take, drop};
 ghost use Rattle.tables.specs.Sizes.{processes, threads};
 ghost use Rattle.tables.specs.Tables.{threadOf, expired, sharesBit, sleepsAt};
@@ -13,9 +13,11 @@ use crate::COUNT_AT;
 use crate::DEADLINE_AT;
 use crate::LAST_AT;
 use crate::LIST_AT;
+use crate::TIME_SIZE;
 use crate::TIMED_AT;
 use crate::UADDR_AT;
 use crate::WAITING_AT;
+use crate::WORD_SIZE;
 use arrivals::index_of;
 use numbers::u32_at;
 use numbers::u64_at;
@@ -44,9 +46,9 @@ pub fn thread_at(b: &[u8], i: usize) -> Thread
     let waiting = b[WAITING_AT + i];
     let timed = b[TIMED_AT + i];
     let last = last_of(b[LAST_AT + i]);
-    let uaddr = u32_at(b, UADDR_AT + 4 * i);
-    let bitset = u32_at(b, BITSET_AT + 4 * i);
-    let deadline = u64_at(b, DEADLINE_AT + 8 * i);
+    let uaddr = u32_at(b, UADDR_AT + WORD_SIZE * i);
+    let bitset = u32_at(b, BITSET_AT + WORD_SIZE * i);
+    let deadline = u64_at(b, DEADLINE_AT + TIME_SIZE * i);
     Thread {
         waiting: waiting == 1,
         uaddr: uaddr,

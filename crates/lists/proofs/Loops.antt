@@ -9,7 +9,7 @@ use lib.ListN.{length, take, drop, getD, set, replicate, length-append}
 use lib.Seq.{take-nil, drop-nil, take-suc, take-suc-set, drop-cons, set-append-seam}
 use lib.Dec.{eqb, ltb}
 use borrow.Author.Tests.{lt-ltb}
-use Rattle.lists.specs.Lists.{filter, all, elem, without, distinct, padTo, passed, bit}
+use Rattle.lists.specs.Lists.{filter, all, elem, without, distinct, padTo, leftOver, bit}
 use Rattle.lists.proofs.Tests.{cases, clash}
 use Rattle.lists.proofs.Filter.{filter-true}
 use Rattle.lists.proofs.Occurs.{occurs, eqb-refl, eqb-sym, elem-append, occurs-absent, occurs-take-le, occurs-filter-le}
@@ -48,25 +48,25 @@ module _ {A : Type 0} where
       → (ok && all f (drop i l)) ≡ (ok && f (getD l i d) && all f (drop (i + 1) l))
   all-next f ok l i d h = rw (drop-next l i d h) (sym (and-assoc ok (f (getD l i d)) (all f (drop (i + 1) l))))
 
-  -- an element that is taken, and one that is passed
+  -- an element that is taken, and one that is left
   module _ (f : A → Bool) (x : A) (xs : List A) where
     pub taken-one : (m : ℕ) → f x ≡ true → take (suc m) (filter f (x ∷ xs)) ≡ x ∷ take m (filter f xs)
     taken-one m e = cc
 
-    pub passed-taken : (m : ℕ) → f x ≡ true → passed f (suc m) (x ∷ xs) ≡ passed f m xs
-    passed-taken m e = cc
+    pub leftOver-taken : (m : ℕ) → f x ≡ true → leftOver f (suc m) (x ∷ xs) ≡ leftOver f m xs
+    leftOver-taken m e = cc
 
     pub taken-none : (m : ℕ) → (f x && ltb 0 m) ≡ false → take m (filter f (x ∷ xs)) ≡ take m (filter f xs)
     taken-none zero e = refl
     taken-none (suc m) e = cases (f x) (λ d. clash true refl (cc (lt-ltb 0 (suc m) (omega arith)))) (λ d. cc)
 
-    pub passed-one : (m : ℕ) → (f x && ltb 0 m) ≡ false → passed f m (x ∷ xs) ≡ x ∷ passed f m xs
-    passed-one zero e = ap (x ∷_) (sym (passed-none xs))
+    pub leftOver-kept : (m : ℕ) → (f x && ltb 0 m) ≡ false → leftOver f m (x ∷ xs) ≡ x ∷ leftOver f m xs
+    leftOver-kept zero e = ap (x ∷_) (sym (leftOver-none xs))
       where
-        passed-none : (l : List A) → passed f zero l ≡ l
-        passed-none [] = refl
-        passed-none (y ∷ ys) = refl
-    passed-one (suc m) e = cases (f x) (λ d. clash true refl (cc (lt-ltb 0 (suc m) (omega arith)))) (λ d. cc)
+        leftOver-none : (l : List A) → leftOver f zero l ≡ l
+        leftOver-none [] = refl
+        leftOver-none (y ∷ ys) = refl
+    leftOver-kept (suc m) e = cases (f x) (λ d. clash true refl (cc (lt-ltb 0 (suc m) (omega arith)))) (λ d. cc)
 
 -- no number twice
 pub distinct-snoc : (l : List ℕ) (x : ℕ) → distinct (l ++ (x ∷ [])) ≡ (distinct l && not (elem x l))
@@ -80,7 +80,7 @@ distinct-snoc (y ∷ ys) x =
     (λ k. let k' : eqb y x ≡ false = cc (eqb-sym x y) in
     cases (elem y ys) (λ d. cc) (λ d. cases (distinct ys) (λ b. cases (elem x ys) (λ q. cc) (λ q. cc)) (λ b. cc)))
 
--- In a list without repeats, taking the first n that pass out leaves what is passed.
+-- In a list without repeats, the first n that pass, taken out as numbers, leave what is left over.
 without-absent : (x : ℕ) (ts l : List ℕ) → occurs x l ≡ 0 → without (x ∷ ts) l ≡ without ts l
 without-absent x ts [] h = refl
 without-absent x ts (y ∷ ys) h =
@@ -89,7 +89,7 @@ without-absent x ts (y ∷ ys) h =
     (λ e. absurd (omega (arith, h, ap bit (eqb-sym x y ∙ e))))
     (λ e. cases (elem y ts) (λ d. cc) (λ d. cc))
 
-pub without-taken : (f : ℕ → Bool) (l : List ℕ) (n : ℕ) → ((t : ℕ) → occurs t l ≤ 1) → without (take n (filter f l)) l ≡ passed f n l
+pub without-taken : (f : ℕ → Bool) (l : List ℕ) (n : ℕ) → ((t : ℕ) → occurs t l ≤ 1) → without (take n (filter f l)) l ≡ leftOver f n l
 without-taken f [] n one = refl
 without-taken f (x ∷ xs) zero one = filter-true (x ∷ xs)
 without-taken f (x ∷ xs) (suc n) one =
@@ -102,18 +102,18 @@ without-taken f (x ∷ xs) (suc n) one =
       occurs-absent x (take (suc n) (filter f xs)) (omega (arith, none, occurs-take-le (suc n) x (filter f xs), occurs-filter-le f x xs)),
     )))
 
--- what is passed and what is taken make up the list
-pub length-parts : (f : ℕ → Bool) (l : List ℕ) (n : ℕ) → length (passed f n l) + length (take n (filter f l)) ≡ length l
+-- what is left over and what is taken make up the list
+pub length-parts : (f : ℕ → Bool) (l : List ℕ) (n : ℕ) → length (leftOver f n l) + length (take n (filter f l)) ≡ length l
 length-parts f [] n = rw (take-nil n) (omega arith)
 length-parts f (x ∷ xs) zero = omega arith
 length-parts f (x ∷ xs) (suc n) = cases (f x)
     (λ e. rw e (omega (arith, length-parts f xs n)))
     (λ e. rw e (omega (arith, length-parts f xs (suc n))))
 
--- of what is left, those that pass are the ones behind those that were taken
-pub filter-passed : (f : ℕ → Bool) (l : List ℕ) (n : ℕ) → filter f (passed f n l) ≡ drop n (filter f l)
-filter-passed f [] n = sym (drop-nil n)
-filter-passed f (x ∷ xs) zero = refl
-filter-passed f (x ∷ xs) (suc n) = cases (f x)
-    (λ e. cc (filter-passed f xs n))
-    (λ e. cc (filter-passed f xs (suc n)))
+-- of what is left over, those that pass are the ones behind those that were taken
+pub filter-leftOver : (f : ℕ → Bool) (l : List ℕ) (n : ℕ) → filter f (leftOver f n l) ≡ drop n (filter f l)
+filter-leftOver f [] n = sym (drop-nil n)
+filter-leftOver f (x ∷ xs) zero = refl
+filter-leftOver f (x ∷ xs) (suc n) = cases (f x)
+    (λ e. cc (filter-leftOver f xs n))
+    (λ e. cc (filter-leftOver f xs (suc n)))

@@ -31,10 +31,10 @@ module _ {ℓ} {A : Type ℓ} where
   tabulate (suc n) f = f zero ∷ tabulate n (λ i. f (suc i))
 
   -- what is left of the list when the first n elements that pass the test are taken out
-  abbrev pub passed : (A → Bool) → ℕ → List A → List A
-  passed f n [] = []
-  passed f zero (x ∷ xs) = x ∷ xs
-  passed f (suc n) (x ∷ xs) = cond (f x) (passed f n xs) (x ∷ passed f (suc n) xs)
+  abbrev pub leftOver : (A → Bool) → ℕ → List A → List A
+  leftOver f n [] = []
+  leftOver f zero (x ∷ xs) = x ∷ xs
+  leftOver f (suc n) (x ∷ xs) = cond (f x) (leftOver f n xs) (x ∷ leftOver f (suc n) xs)
 
 -- the number stands in the list
 abbrev pub elem : ℕ → List ℕ → Bool

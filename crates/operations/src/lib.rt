@@ -1,25 +1,46 @@
 // Operations: what the val3 of a WAKE_OP stands for. It stands on rules.
 ghost use mathlib.Core.Path.{_≡_};
-ghost use Prim.Native.Nat.{_+_, _%_, _^_, _<_};
+ghost use Prim.Native.Nat.{_+_, _%_};
 ghost use Rattle.tables.specs.Sizes.{wordLimit};
 ghost use Rattle.rules.specs.WakeOp.{opField, cmpField, opArg, undefinedOp, operand, newWord, compares};
+
+// From the top, val3 has 4 bits op, 4 cmp, 12 oparg and 12 cmparg: where each begins, and how many values it has.
+const OP_AT: u32 = 1 << 28;
+
+const CMP_AT: u32 = 1 << 24;
+
+const OPARG_AT: u32 = 1 << 12;
+
+const CODES: u32 = 1 << 4;
+
+const ARGS: u32 = 1 << 12;
+
+// The bit of op that makes oparg a shift (FUTEX_OP_OPARG_SHIFT); the operation is the bits below it.
+const OPARG_SHIFT: u32 = 8;
+
+// The last operation and the last comparison that are defined (FUTEX_OP_XOR, FUTEX_OP_CMP_GE).
+const OP_XOR: u32 = 4;
+
+const CMP_GE: u32 = 5;
+
+const WORD_BITS: u32 = 32;
 
 fn op_field(v: u32) -> u32
     ensures { λ r. ⌜ r ≡ opField v ⌝ }
 {
-    v / 268435456 % 16
+    v / OP_AT % CODES
 }
 
 fn cmp_field(v: u32) -> u32
     ensures { λ r. ⌜ r ≡ cmpField v ⌝ }
 {
-    v / 16777216 % 16
+    v / CMP_AT % CODES
 }
 
 fn op_arg(v: u32) -> u32
     ensures { λ r. ⌜ r ≡ opArg v ⌝ }
 {
-    v / 4096 % 4096
+    v / OPARG_AT % ARGS
 }
 
 pub fn undefined_op(v: u32) -> bool
@@ -27,7 +48,7 @@ pub fn undefined_op(v: u32) -> bool
 {
     let op = op_field(v);
     let cmp = cmp_field(v);
-    (4 < op % 8) | (5 < cmp)
+    (OP_XOR < op % OPARG_SHIFT) | (CMP_GE < cmp)
 }
 
 fn operand(v: u32) -> u32
@@ -35,7 +56,11 @@ fn operand(v: u32) -> u32
 {
     let op = op_field(v);
     let arg = op_arg(v);
-    if 8 <= op { 1u32 << (arg % 32) } else { arg }
+    if OPARG_SHIFT <= op {
+        1u32 << (arg % WORD_BITS)
+    } else {
+        arg
+    }
 }
 
 fn wrapping_sum(a: u32, b: u32) -> u32
@@ -49,7 +74,7 @@ pub fn new_word(v: u32, old: u32) -> u32
     ensures { λ r. ⌜ r ≡ newWord v old ⌝ }
 {
     let x = operand(v);
-    let code = op_field(v) % 8;
+    let code = op_field(v) % OPARG_SHIFT;
     match code {
         0 => x,
         1 => wrapping_sum(old, x),
@@ -62,7 +87,7 @@ pub fn new_word(v: u32, old: u32) -> u32
 pub fn compares(v: u32, old: u32) -> bool
     ensures { λ r. ⌜ r ≡ compares v old ⌝ }
 {
-    let x = v % 4096;
+    let x = v % ARGS;
     let cmp = cmp_field(v);
     match cmp {
         0 => old == x,

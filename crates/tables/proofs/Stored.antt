@@ -8,7 +8,7 @@ use lib.ListN.{length, take, getD, set, replicate, length-append, List·getD-app
 use lib.Seq.{take-append-seam}
 use lib.Dec.{ltb}
 use borrow.Author.Tests.{ltb-true, lt-ltb}
-use Rattle.lists.specs.Lists.{filter, all, without, padTo, passed}
+use Rattle.lists.specs.Lists.{filter, all, without, padTo, leftOver}
 use Rattle.lists.proofs.Filter.{all-filtered, all-take, filter-true}
 use Rattle.lists.proofs.Occurs.{all-elem, elem-all, elem-getD}
 use Rattle.lists.proofs.Loops.{length-snoc, padTo-snoc, without-taken, length-parts}
@@ -57,7 +57,7 @@ module _ (s : State) (g : Sound s) where
     seam : (l : List ℕ) → take (length l) (padTo threads noEntry l) ≡ l
     seam l = take-append-seam l (replicate (threads - length l) noEntry)
 
-    left-is : without taken (arrivals s) ≡ passed f cap (arrivals s)
+    left-is : without taken (arrivals s) ≡ leftOver f cap (arrivals s)
     left-is = without-taken f (arrivals s) cap (once s g)
 
     pub ends-first : (a : LastAnswer) (parts : Parts) → parts ≡ splitOf f cap (arrivals s)
@@ -70,7 +70,7 @@ module _ (s : State) (g : Sound s) where
         → (parts .kept ≡ padTo threads noEntry (take (parts .count) (parts .kept))) × (parts .count + parts .n ≤ threads)
     unfolding splitOf
     joins parts is =
-        rw is ((ap (padTo threads noEntry) (sym (seam (passed f cap (arrivals s))))), omega (arith, length-parts f (arrivals s) cap, arrivals-fit s g))
+        rw is ((ap (padTo threads noEntry) (sym (seam (leftOver f cap (arrivals s))))), omega (arith, length-parts f (arrivals s) cap, arrivals-fit s g))
 
     pub moves-first : (a : ℕ) (parts : Parts) → parts ≡ splitOf f cap (arrivals s)
         → (u : State) → u ≡ withThreads (change (changedBy (MoveTo a)) (take (parts .n) (parts .taken)) (s .threads)) s
@@ -78,9 +78,9 @@ module _ (s : State) (g : Sound s) where
         → record { state = record { clock = u .clock; threads = u .threads; list = l; count = u .count }; n = parts .n } ≡ moveFirst a f cap s
     unfolding splitOf moveFirst moveSleeps
     moves-first a parts is u new l all =
-        let count : s .count ≡ length (passed f cap (arrivals s) ++ taken) =
-        g .counted ∙ sym (length-append (passed f cap (arrivals s)) taken ∙ length-parts f (arrivals s) cap) in
-        cc (seam taken, seam (passed f cap (arrivals s)), left-is)
+        let count : s .count ≡ length (leftOver f cap (arrivals s) ++ taken) =
+        g .counted ∙ sym (length-append (leftOver f cap (arrivals s)) taken ∙ length-parts f (arrivals s) cap) in
+        cc (seam taken, seam (leftOver f cap (arrivals s)), left-is)
 
 -- a thread that falls asleep
 pub falls-asleep : (s : State) → Sound s → (t a m : ℕ) (timed : Bool) (due : ℕ) (new : Thread) → t < threads → s .count < threads

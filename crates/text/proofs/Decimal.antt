@@ -7,8 +7,9 @@ use lib.ListN.{length, length-append}
 use lib.Dec.{ltb}
 use borrow.Author.Tests.{ltb-true, ltb-false}
 use Rattle.io.specs.Digits.{digits, Fewest}
+use Rattle.tables.specs.Sizes.{wordLimit}
 use Rattle.lists.proofs.Tests.{cases}
-use Rattle.text.specs.Text.{placesFor, decimal}
+use Rattle.text.specs.Text.{placesFor, mostDigits, wordDigits, decimal}
 
 pow-up : (i j : ℕ) → i ≤ j → 10 ^ i ≤ 10 ^ j
 pow-up i j h = pow-le-pow-right {n = 10} (omega arith) h
@@ -48,10 +49,10 @@ length-digits zero n = refl
 length-digits (suc k) n = rw (length-append, length-digits k (n / 10)) (omega arith)
 
 -- what io::decimal leaves is the number's text
-pub decimal-is : (n r : ℕ) → n < 2 ^ 32 → Fewest 10 1 n r → (digits 10 r n ≡ decimal n) × (r ≡ length (decimal n)) × (r ≤ 10)
+pub decimal-is : (n r : ℕ) → n < wordLimit → Fewest 10 1 n r → (digits 10 r n ≡ decimal n) × (r ≡ length (decimal n)) × (r ≤ wordDigits)
 unfolding decimal
 decimal-is n r h f =
-    let w = places-fewest 19 n (omega arith) in
-    let e : r ≡ placesFor 19 n = fewest-one n r (placesFor 19 n) f w in
-    let ten : r ≤ 10 = cases (ltb 10 r) (λ q. let a = ltb-true 10 r q in let b = f .2 (omega arith) in let c = pow-up 10 (r - 1) (omega arith) in absurd (omega arith)) (λ q. ltb-false 10 r q) in
-    (ap (λ (x : ℕ). digits 10 x n) e, e ∙ sym (length-digits (placesFor 19 n) n), ten)
+    let w = places-fewest (mostDigits - 1) n (omega arith) in
+    let e : r ≡ placesFor (mostDigits - 1) n = fewest-one n r (placesFor (mostDigits - 1) n) f w in
+    let few : r ≤ wordDigits = cases (ltb wordDigits r) (λ q. let a = ltb-true wordDigits r q in let b = f .2 (omega arith) in let c = pow-up wordDigits (r - 1) (omega arith) in absurd (omega arith)) (λ q. ltb-false wordDigits r q) in
+    (ap (λ (x : ℕ). digits 10 x n) e, e ∙ sym (length-digits (placesFor (mostDigits - 1) n) n), few)

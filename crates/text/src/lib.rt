@@ -3,12 +3,51 @@ ghost use mathlib.Core.Path.{_≡_};
 ghost use Prim.Native.Nat.{_+_, _≤_};
 ghost use lib.ListN.{length, take};
 ghost use lib.Seq.{sets};
-ghost use Rattle.text.specs.Text.{decimal, countLine, refusalLine, lineOf, lineRoom, Puts};
+ghost use Rattle.text.specs.Text.{mostDigits, wordDigits, decimal, countLine, refusalLine, lineOf, lineRoom, Puts};
 use rules::answer::Answer;
 
+// The most digits of a number of 64 bits: io::decimal's room.
+const DIGITS: usize = 20;
+
+const NEWLINE: u8 = b'\n';
+
+const MINUS: u8 = b'-';
+
+// The most digits of a number of 32 bits.
+const WORD_DIGITS: usize = 10;
+
+// No line is longer than a minus sign, these digits and the line end.
+pub const LINE_ROOM: usize = 1 + WORD_DIGITS + 1;
+
+// The line of a call that sleeps, and its length.
+const ASLEEP: [u8; DIGITS] = [
+    b'a',
+    b's',
+    b'l',
+    b'e',
+    b'e',
+    b'p',
+    NEWLINE,
+    0,
+    0,
+    0,
+    0,
+    0,
+    0,
+    0,
+    0,
+    0,
+    0,
+    0,
+    0,
+    0,
+];
+
+const ASLEEP_LINE: usize = 7;
+
 // Stores the first n bytes of src at a place.
-fn copy(src: [u8; 20], n: usize, out: &mut [u8], k: usize)
-    requires { ⌜ (n ≤ 20) × (k + n ≤ length (now out)) ⌝ }
+fn copy(src: [u8; DIGITS], n: usize, out: &mut [u8], k: usize)
+    requires { ⌜ (n ≤ mostDigits) × (k + n ≤ length (now out)) ⌝ }
     ensures { λ _. ⌜ now (out .exit) ≡ sets (now (out .entry)) k (take n src) ⌝ }
 {
     let mut i: usize = 0;
@@ -20,10 +59,10 @@ fn copy(src: [u8; 20], n: usize, out: &mut [u8], k: usize)
 
 // A number's decimal digits at a place; the next place.
 fn put_decimal(v: u32, out: &mut [u8], k: usize) -> usize
-    requires { ⌜ k + 10 ≤ length (now out) ⌝ }
-    ensures { λ r. ⌜ Puts 10 k (decimal v) (now (out .entry)) r (now (out .exit)) ⌝ }
+    requires { ⌜ k + wordDigits ≤ length (now out) ⌝ }
+    ensures { λ r. ⌜ Puts wordDigits k (decimal v) (now (out .entry)) r (now (out .exit)) ⌝ }
 {
-    let mut d = [0u8; 20];
+    let mut d = [0u8; DIGITS];
     let n = io::decimal(v as u64, &mut d);
     copy(d, n, out, k);
     k + n
@@ -31,11 +70,11 @@ fn put_decimal(v: u32, out: &mut [u8], k: usize) -> usize
 
 // A number's line at a place; the next place.
 fn put_count(v: u32, out: &mut [u8], k: usize) -> usize
-    requires { ⌜ k + 11 ≤ length (now out) ⌝ }
-    ensures { λ r. ⌜ Puts 11 k (countLine v) (now (out .entry)) r (now (out .exit)) ⌝ }
+    requires { ⌜ k + (wordDigits + 1) ≤ length (now out) ⌝ }
+    ensures { λ r. ⌜ Puts (wordDigits + 1) k (countLine v) (now (out .entry)) r (now (out .exit)) ⌝ }
 {
     let j = put_decimal(v, out, k);
-    out[j] = 10;
+    out[j] = NEWLINE;
     j + 1
 }
 
@@ -44,7 +83,7 @@ pub fn put_refusal(v: u32, out: &mut [u8], k: usize) -> usize
     requires { ⌜ k + lineRoom ≤ length (now out) ⌝ }
     ensures { λ r. ⌜ Puts lineRoom k (refusalLine v) (now (out .entry)) r (now (out .exit)) ⌝ }
 {
-    out[k] = 45;
+    out[k] = MINUS;
     put_count(v, out, k + 1)
 }
 
@@ -55,30 +94,8 @@ pub fn put_line(a: Answer, out: &mut [u8], k: usize) -> usize
 {
     match a {
         Answer::Asleep => {
-            let t = [
-                97u8,
-                115,
-                108,
-                101,
-                101,
-                112,
-                10,
-                0,
-                0,
-                0,
-                0,
-                0,
-                0,
-                0,
-                0,
-                0,
-                0,
-                0,
-                0,
-                0,
-            ];
-            copy(t, 7, out, k);
-            k + 7
+            copy(ASLEEP, ASLEEP_LINE, out, k);
+            k + ASLEEP_LINE
         }
         Answer::Count(n) => put_count(n, out, k),
         Answer::Refused(x) => {

@@ -21,7 +21,7 @@ use Rattle.rules.specs.Calls.{matches, secondCap, candidates, wake, requeue, wa
 use Rattle.tables.proofs.Sound.{Sound, sound-tables}
 use Rattle.rules.specs.declared.answer.Answered.{Answered}
 use Rattle.effects.proofs.Effects.{end-sound, end-few, move-few, wakes, requeues, releases-both}
-use Rattle.changes.specs.Change.{Stands, Took}
+use Rattle.changes.specs.Change.{Stands, TakenBytes}
 use Rattle.vradomil.specs.Host.{Done, Leaves}
 use Rattle.vradomil.proofs.Steps.{took-done, done-by}
 
@@ -33,33 +33,33 @@ pub answered-leaves : (o : Outcome) (a : Answered) (n : ℕ) (after : List ℕ) 
 answered-leaves o a n after is h = done-by _ _ _ _ n after (ap (λ (q : Answered). q .answer) is) (ap (λ (q : Answered). q .state) is) h
 
 -- the tables between two changes
-pub stands-ended : (a : LastAnswer) (f : ℕ → Bool) (cap : ℕ) (s : State) (n : ℕ) (b : List ℕ) → Sound s → Took (endFirst a f cap s) n b
+pub stands-ended : (a : LastAnswer) (f : ℕ → Bool) (cap : ℕ) (s : State) (n : ℕ) (b : List ℕ) → Sound s → TakenBytes (endFirst a f cap s) n b
     → Stands (endFirst a f cap s .state) b
 stands-ended a f cap s n b g t = record { bytes = t .bytes; sound = sound-tables (endFirst a f cap s .state) (end-sound a f cap s g) }
 
-pub ended-few : (a : LastAnswer) (f : ℕ → Bool) (cap : ℕ) (s : State) (n : ℕ) (b : List ℕ) → Sound s → Took (endFirst a f cap s) n b → n ≤ threads
+pub ended-few : (a : LastAnswer) (f : ℕ → Bool) (cap : ℕ) (s : State) (n : ℕ) (b : List ℕ) → Sound s → TakenBytes (endFirst a f cap s) n b → n ≤ threads
 ended-few a f cap s n b g t = omega (arith, t .number, end-few a f cap s g)
 
 module _ (k : Command) (c : Call) (s : State) (g : Sound s) (f : ℕ → Bool)
     (is : filter f (arrivals s) ≡ candidates (matches k c) (c .process) (c .uaddr) s) where
-  pub wake-done : (n : ℕ) (after : List ℕ) → Took (endFirst Woken f (c .val) s) n after → Leaves (wake k c (world s [])) n after
+  pub wake-done : (n : ℕ) (after : List ℕ) → TakenBytes (endFirst Woken f (c .val) s) n after → Leaves (wake k c (world s [])) n after
   wake-done n after t =
       by-answered (wake k c (world s [])) _ n after (wakes k c s g f is [])
       (took-done (endFirst Woken f (c .val) s) n after t (omega (arith, ended-few Woken f (c .val) s n after g t)))
 
   -- counts of two changes
-  pub moved-few : (n m : ℕ) (b after : List ℕ) → Took (endFirst Woken f (c .val) s) n b → (cap : ℕ)
-      → Took (moveFirst (c .uaddr2) f cap (endFirst Woken f (c .val) s .state)) m after → (n ≤ threads) × (m ≤ threads)
+  pub moved-few : (n m : ℕ) (b after : List ℕ) → TakenBytes (endFirst Woken f (c .val) s) n b → (cap : ℕ)
+      → TakenBytes (moveFirst (c .uaddr2) f cap (endFirst Woken f (c .val) s .state)) m after → (n ≤ threads) × (m ≤ threads)
   moved-few n m b after t cap u = (
     ended-few Woken f (c .val) s n b g t,
     omega (arith, u .number, move-few (c .uaddr2) f cap (endFirst Woken f (c .val) s .state) (end-sound Woken f (c .val) s g)),
   )
 
-  pub requeue-done : (n m more cap : ℕ) (b after : List ℕ) → Took (endFirst Woken f (c .val) s) n b → cap ≡ secondCap c
-      → Took (moveFirst (c .uaddr2) f cap (endFirst Woken f (c .val) s .state)) m after → more ≡ cond (uses k .compare) m 0 → more ≤ m
+  pub requeue-done : (n m more cap : ℕ) (b after : List ℕ) → TakenBytes (endFirst Woken f (c .val) s) n b → cap ≡ secondCap c
+      → TakenBytes (moveFirst (c .uaddr2) f cap (endFirst Woken f (c .val) s .state)) m after → more ≡ cond (uses k .compare) m 0 → more ≤ m
       → Leaves (requeue k c (world s [])) (n + more) after
   requeue-done n m more cap b after t limit u counts less =
-      let v = subst (λ q. Took (moveFirst (c .uaddr2) f q (endFirst Woken f (c .val) s .state)) m after) limit u in
+      let v = subst (λ q. TakenBytes (moveFirst (c .uaddr2) f q (endFirst Woken f (c .val) s .state)) m after) limit u in
       let few = moved-few n m b after t cap u in
       by-answered (requeue k c (world s [])) _ (n + more) after (requeues k c s g f is [])
       (record {
@@ -72,12 +72,12 @@ module _ (k : Command) (c : Call) (s : State) (g : Sound s) (f : ℕ → Bool)
 module _ (k : Command) (c : Call) (w : World) (g : Sound (w .state)) (f h : ℕ → Bool)
     (is : filter f (arrivals (w .state)) ≡ candidates (matches k c) (c .process) (c .uaddr) (w .state))
     (is2 : filter h (arrivals (w .state)) ≡ candidates (matches k c) (c .process) (c .uaddr2) (w .state)) where
-  pub both-done : (n m cap : ℕ) (b after : List ℕ) → Took (endFirst Woken f (c .val) (w .state)) n b
+  pub both-done : (n m cap : ℕ) (b after : List ℕ) → TakenBytes (endFirst Woken f (c .val) (w .state)) n b
       → cap ≡ cond (compares (c .val3) (wordAt w (c .process) (c .uaddr2))) (secondCap c) 0
-      → Took (endFirst Woken h cap (endFirst Woken f (c .val) (w .state) .state)) m after → Leaves (wakeOp k c w) (n + m) after
+      → TakenBytes (endFirst Woken h cap (endFirst Woken f (c .val) (w .state) .state)) m after → Leaves (wakeOp k c w) (n + m) after
   both-done n m cap b after t limit u =
       let one = endFirst Woken f (c .val) (w .state) in
-      let v = subst (λ q. Took (endFirst Woken h q (one .state)) m after) limit u in
+      let v = subst (λ q. TakenBytes (endFirst Woken h q (one .state)) m after) limit u in
       let few = ended-few Woken f (c .val) (w .state) n b g t in
       let more = ended-few Woken h cap (one .state) m after (end-sound Woken f (c .val) (w .state) g) u in
       by-answered (wakeOp k c w) _ (n + m) after (releases-both k c w g f h is is2)

@@ -28,7 +28,7 @@ use Rattle.rules.proofs.Rows.{not-pass, step-refused, step-passed}
 use Rattle.tables.specs.Tables.{World, world, threadOf, wordAt, aligned, outside}
 use Rattle.layout.specs.Layout.{tablesBytes, stateAt, wordsAt, wordsBytes}
 use Rattle.layout.specs.Check.{Held}
-use Rattle.changes.specs.Change.{Stands, Took}
+use Rattle.changes.specs.Change.{Stands, TakenBytes}
 use Rattle.vradomil.specs.Host.{seen, isRefused, tablesLeft, wordsLeft, Numbered, ChangesTables, ChangesWords, Calls, BuffersJudged, Done, Leaves}
 
 -- the tables that sound bytes stand for
@@ -36,7 +36,7 @@ pub stands : (b : List ℕ) → Held b → Stands (stateAt b) b
 stands b h = record { bytes = h .bytes; sound = h .sound }
 
 -- a count of sleepers that were taken, as a number and bytes
-pub took-done : (t : Taken) (n : ℕ) (after : List ℕ) → Took t n after → n ≤ maxCap → Done (Count (t .n)) (t .state) n after
+pub took-done : (t : Taken) (n : ℕ) (after : List ℕ) → TakenBytes t n after → n ≤ maxCap → Done (Count (t .n)) (t .state) n after
 took-done t n after h few = record { number = ap (λ k. pos k ∷ []) (h .number); small = few; bytes = h .bytes }
 
 pub done-by : (a d : Answer) (s u : State) (n : ℕ) (after : List ℕ) → a ≡ d → s ≡ u → Done a s n after → Done d u n after

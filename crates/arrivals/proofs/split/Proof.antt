@@ -9,9 +9,9 @@ use borrow.Author.Tests.{ltb-true, ltb-false, lt-ltb, le-ltb}
 use lib.ListN.{length, take, drop, getD, set, drop-of-length-le}
 use lib.Seq.{length-take-le, getD-take, take-nil}
 use lib.Dec.{ltb}
-use Rattle.lists.specs.Lists.{filter, padTo, passed}
+use Rattle.lists.specs.Lists.{filter, padTo, leftOver}
 use Rattle.lists.proofs.Tests.{cases, by-cases, and-left, and-right}
-use Rattle.lists.proofs.Loops.{drop-next, length-snoc, padTo-snoc, taken-one, taken-none, passed-taken, passed-one}
+use Rattle.lists.proofs.Loops.{drop-next, length-snoc, padTo-snoc, taken-one, taken-none, leftOver-taken, leftOver-kept}
 use Rattle.arrivals.specs.Sizes.{threads, noEntry}
 use Rattle.arrivals.specs.Arrivals.{flagged, splitOf}
 use Rattle.arrivals.proofs.split.Statement.{statement}
@@ -27,7 +27,7 @@ record Going (l : List ℕ) (f : ℕ → Bool) (cap : ℕ) (kept taken : List �
   taken-stored : taken ≡ padTo threads noEntry ts
   kept-counted : w ≡ length ks
   taken-counted : n ≡ length ts
-  kept-all : ks ++ passed f (cap - n) (drop i l) ≡ passed f cap l
+  kept-all : ks ++ leftOver f (cap - n) (drop i l) ≡ leftOver f cap l
   taken-all : ts ++ take (cap - n) (filter f (drop i l)) ≡ take cap (filter f l)
 
 abbrev Inv-loop : tie.InvT-loop
@@ -55,7 +55,7 @@ loop-holds c =
       taken-stored = refl;
       kept-counted = refl;
       taken-counted = refl;
-      kept-all = ap (λ m. passed (flagged (c .args .t3)) m (take (c .args .count) (c .args .t1))) all-left;
+      kept-all = ap (λ m. leftOver (flagged (c .args .t3)) m (take (c .args .count) (c .args .t1))) all-left;
       taken-all = ap (λ m. take m (filter (flagged (c .args .t3)) (take (c .args .count) (c .args .t1)))) all-left;
     }
 
@@ -106,7 +106,7 @@ module _ (l : List ℕ) (f : ℕ → Bool) (cap : ℕ) (kept taken : List ℕ) (
         taken-stored = cc (g .taken-stored, g .taken-counted, padTo-snoc threads noEntry (g .ts) x (omega (arith, g .taken-counted, g .so-far)));
         kept-counted = g .kept-counted;
         taken-counted = omega (arith, g .taken-counted, length-snoc (g .ts) x);
-        kept-all = cc (g .kept-all, rest, m, passed-taken f x (drop (i + 1) l) (cap - (n + 1)) passes);
+        kept-all = cc (g .kept-all, rest, m, leftOver-taken f x (drop (i + 1) l) (cap - (n + 1)) passes);
         taken-all = append-assoc (g .ts) (x ∷ []) _ ∙ cc (g .taken-all, rest, m, taken-one f x (drop (i + 1) l) (cap - (n + 1)) passes);
       }
 
@@ -123,7 +123,7 @@ module _ (l : List ℕ) (f : ℕ → Bool) (cap : ℕ) (kept taken : List ℕ) (
         taken-stored = g .taken-stored;
         kept-counted = omega (arith, g .kept-counted, length-snoc (g .ks) x);
         taken-counted = g .taken-counted;
-        kept-all = append-assoc (g .ks) (x ∷ []) _ ∙ cc (g .kept-all, rest, passed-one f x (drop (i + 1) l) (cap - n) out);
+        kept-all = append-assoc (g .ks) (x ∷ []) _ ∙ cc (g .kept-all, rest, leftOver-kept f x (drop (i + 1) l) (cap - n) out);
         taken-all = cc (g .taken-all, rest, taken-none f x (drop (i + 1) l) (cap - n) out);
       }
     where
@@ -159,7 +159,7 @@ returns c =
     let f = flagged (g .args .t3) in
     let m = g .args .cap - c .before .loop .n in
     let end : drop (c .before .loop .i) l ≡ [] = drop-of-length-le l {i = c .before .loop .i} (omega (arith, size g)) in
-    let kept : inv .ks ≡ passed f (g .args .cap) l = sym (append-nil (inv .ks)) ∙ ap (λ r. inv .ks ++ passed f m r) (sym end) ∙ inv .kept-all in
+    let kept : inv .ks ≡ leftOver f (g .args .cap) l = sym (append-nil (inv .ks)) ∙ ap (λ r. inv .ks ++ leftOver f m r) (sym end) ∙ inv .kept-all in
     let taken : inv .ts ≡ take (g .args .cap) (filter f l) =
     sym (append-nil (inv .ts)) ∙ ap (inv .ts ++_) (sym (take-nil m)) ∙ ap (λ r. inv .ts ++ take m (filter f r)) (sym end) ∙ inv .taken-all in
     cc (inv .kept-stored, inv .taken-stored, inv .kept-counted, inv .taken-counted)

@@ -10,7 +10,6 @@ use Rattle.tables.specs.Tables.{withThreads}
 use Rattle.layout.specs.Layout.{tablesBytes}
 use Rattle.tables.specs.declared.Change.the-variants.{End}
 use Rattle.changes.proofs.Changing.{Changed, changed-start, changed-more, changed-all}
-use borrow.Author.Needs.{needs}
 use Rattle.changes.proofs.end_all.Statement.{statement}
 use Rattle.changes.proofs.end_all.Tie as tie
 

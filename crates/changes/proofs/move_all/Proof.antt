@@ -8,7 +8,6 @@ use Rattle.tables.specs.Sizes.{threads}
 use Rattle.tables.specs.declared.Change.the-variants.{MoveTo}
 use Rattle.changes.proofs.Writing.{address-put}
 use Rattle.changes.proofs.Changing.{Changed, changed-start, changed-more, changed-all}
-use borrow.Author.Needs.{needs}
 use Rattle.changes.proofs.move_all.Statement.{statement}
 use Rattle.changes.proofs.move_all.Tie as tie
 

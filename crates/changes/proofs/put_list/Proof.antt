@@ -9,7 +9,7 @@ use lib.Seq.{sets}
 use Rattle.lists.specs.LittleEndian.{bytes}
 use Rattle.lists.proofs.Loops.{drop-next}
 use Rattle.tables.specs.Sizes.{threads}
-use Rattle.layout.specs.Layout.{listAt, countAt}
+use Rattle.layout.specs.Layout.{timeBytes, listAt, countAt}
 use Rattle.changes.proofs.Writing.{list-put}
 use Rattle.changes.proofs.put_list.Statement.{statement}
 use Rattle.changes.proofs.put_list.Tie as tie
@@ -76,7 +76,7 @@ returns c =
     let list = g .args .t2 in
     let end : drop (l .loop .i) list ≡ [] = drop-of-length-le list {i = l .loop .i} (omega (arith, size g)) in
     let stored = sym (l .loop .inv .done ∙ ap (sets (l .loop .b) (listAt + l .loop .i)) end) in
-    c .before .before .put-u64 .ensures ∙ ap (λ x. sets x countAt (bytes 8 (g .args .count))) stored ∙ list-put s w list (g .args .count) (size g) (now (g .args .b)) is
+    c .before .before .put-u64 .ensures ∙ ap (λ x. sets x countAt (bytes timeBytes (g .args .count))) stored ∙ list-put s w list (g .args .count) (size g) (now (g .args .b)) is
 
 pub put-list-spec : {M : Type 1} → statement M
 put-list-spec =

@@ -10,7 +10,8 @@ use Rattle.lists.proofs.Occurs.{bit-le}
 use Rattle.lists.specs.LittleEndian.{bytes}
 use Rattle.tables.specs.declared.LastAnswer.{LastAnswer}
 use Rattle.tables.specs.declared.LastAnswer.the-variants.{NoneYet, Woken, TimedOut, Interrupted}
-use Rattle.layout.specs.Layout.{lastByte, waitingAt, timedAt, lastAt, uaddrAt, bitsetAt, deadlineAt, tablesSize}
+use Rattle.tables.specs.Sizes.{wordBytes}
+use Rattle.layout.specs.Layout.{timeBytes, lastByte, waitingAt, timedAt, lastAt, uaddrAt, bitsetAt, deadlineAt, tablesSize}
 use Rattle.changes.proofs.Writing.{thread-put}
 use borrow.Author.Needs.{needs}
 use Rattle.changes.proofs.put_thread.Statement.{statement}
@@ -112,11 +113,11 @@ returns c =
     let timed = f2 .flag-byte2 .ensures ∙ flag-fits (t .timed) in
     let last = l .last-byte .ensures ∙ last-fits (t .last) in
     m1 .put-u64 .ensures
-    ∙ ap (λ x. sets x (deadlineAt + 8 * i) (bytes 8 (t .deadline)))
+    ∙ ap (λ x. sets x (deadlineAt + timeBytes * i) (bytes timeBytes (t .deadline)))
     (m2 .put-u322 .ensures
-    ∙ ap (λ x. sets x (bitsetAt + 4 * i) (bytes 4 (t .bitset)))
+    ∙ ap (λ x. sets x (bitsetAt + wordBytes * i) (bytes wordBytes (t .bitset)))
     (m3 .put-u32 .ensures
-    ∙ ap (λ x. sets x (uaddrAt + 4 * i) (bytes 4 (t .uaddr)))
+    ∙ ap (λ x. sets x (uaddrAt + wordBytes * i) (bytes wordBytes (t .uaddr)))
     (λ j. set (set (set b (waitingAt + i) (waiting j)) (timedAt + i) (timed j)) (lastAt + i) (last j))))
     ∙ thread-put s w i (g .pre .1) t b is
 

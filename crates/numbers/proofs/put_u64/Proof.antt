@@ -7,7 +7,6 @@ use Rattle.numbers.proofs.Numbers.{halves-stored}
 use borrow.Author.Needs.{needs}
 use Rattle.numbers.proofs.put_u64.Statement.{statement}
 use Rattle.numbers.proofs.put_u64.Tie as tie
-use Rattle.numbers.proofs.put_u32.Reads as put-u32-reads
 
 cast-put-u32 : tie.Need-cast-put-u32
 cast-put-u32 c = search needs

@@ -5,7 +5,6 @@ use Rattle.numbers.proofs.Numbers.{four-bytes}
 use borrow.Author.Needs.{needs}
 use Rattle.numbers.proofs.u32_at.Statement.{statement}
 use Rattle.numbers.proofs.u32_at.Tie as tie
-use Rattle.numbers.proofs.wide.Reads as wide-reads
 
 shared-slice-read-wide : tie.Need-shared-slice-read-wide
 shared-slice-read-wide c = search needs

@@ -4,7 +4,6 @@ use Rattle.numbers.proofs.Numbers.{two-halves}
 use borrow.Author.Needs.{needs}
 use Rattle.numbers.proofs.u64_at.Statement.{statement}
 use Rattle.numbers.proofs.u64_at.Tie as tie
-use Rattle.numbers.proofs.u32_at.Reads as u32-at-reads
 
 u32-at-requires : tie.Need-u32-at-requires
 u32-at-requires c κs = search needs

@@ -5,12 +5,13 @@ use native.Mathlib.Nat.{one-mul, mod-eq-of-lt}
 use native.Mathlib.Omega.{arith}
 use lib.Pow.{pow-lt}
 use borrow.Author.Tests.{le-leb, lt-leb}
+use Rattle.tables.specs.Sizes.{wordLimit}
 use Rattle.rules.specs.WakeOp.{opField, opArg, operand}
 use Rattle.operations.proofs.operand.Statement.{statement}
 use Rattle.operations.proofs.operand.Tie as tie
 
 -- a power below the word's limit
-power : (n : ℕ) → 1 * 2 ^ (n % 32) % 2 ^ 32 ≡ 2 ^ (n % 32)
+power : (n : ℕ) → 1 * 2 ^ (n % 32) % wordLimit ≡ 2 ^ (n % 32)
 power n = let h : n % 32 < 32 = omega arith in rw (one-mul (2 ^ (n % 32))) (mod-eq-of-lt (pow-lt h))
 
 op-field-requires : tie.Need-op-field-requires

@@ -8,6 +8,7 @@ use lib.ListN.{length, take, getD, set, length-set}
 use lib.Seq.{sets, take-suc, length-take-le}
 use borrow.Author.Needs.{needs}
 use Rattle.lists.proofs.Stores.{sets-append}
+use Rattle.text.specs.Text.{mostDigits}
 use Rattle.text.proofs.copy.Statement.{statement}
 use Rattle.text.proofs.copy.Tie as tie
 
@@ -17,7 +18,7 @@ Inv-loop n out₀ k src i₀ out i = (i ≤ n) × (length out ≡ length out₀)
 abbrev μ-loop : tie.MeasureT-loop
 μ-loop n out₀ k src i₀ out i = n - i
 
-long : (c : tie.Start Inv-loop μ-loop) → length (c .args .t1) ≡ 20
+long : (c : tie.Start Inv-loop μ-loop) → length (c .args .t1) ≡ mostDigits
 long c = search needs
 
 loop-holds : tie.Need-loop-holds Inv-loop μ-loop

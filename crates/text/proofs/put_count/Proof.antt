@@ -1,6 +1,6 @@
 use denote.Ref.{now}
 use borrow.Author.Needs.{needs}
-use Rattle.text.specs.Text.{decimal, countLine}
+use Rattle.text.specs.Text.{wordDigits, decimal, newline, countLine}
 use Rattle.text.proofs.Puts.{puts-then}
 use Rattle.text.proofs.put_count.Statement.{statement}
 use Rattle.text.proofs.put_count.Tie as tie
@@ -22,7 +22,7 @@ unfolding countLine
 returns c =
     let p = c .before .before in
     let g = p .before .before .before .args in
-    puts-then 10 (g .k) (decimal (g .v)) (now (g .out)) (p .put-decimal .result) 10 _ (p .put-decimal .ensures)
+    puts-then wordDigits (g .k) (decimal (g .v)) (now (g .out)) (p .put-decimal .result) newline _ (p .put-decimal .ensures)
 
 pub put-count-spec : {M : Type 1} → statement M
 put-count-spec =

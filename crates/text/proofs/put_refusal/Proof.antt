@@ -1,8 +1,9 @@
 use denote.Ref.{now}
+use Prim.Native.Nat.{_+_}
 use native.Mathlib.Omega.{arith}
 use lib.ListN.{length-set}
 use borrow.Author.Needs.{needs}
-use Rattle.text.specs.Text.{countLine, refusalLine}
+use Rattle.text.specs.Text.{wordDigits, minus, countLine, refusalLine}
 use Rattle.text.proofs.Puts.{puts-after}
 use Rattle.text.proofs.put_refusal.Statement.{statement}
 use Rattle.text.proofs.put_refusal.Tie as tie
@@ -24,7 +25,7 @@ unfolding refusalLine
 returns c =
     let p = c .before .before in
     let g = p .before .before .before .args in
-    puts-after 11 (g .k) 45 (countLine (g .v)) (now (g .out)) (p .put-count .result) _ (p .put-count .ensures)
+    puts-after (wordDigits + 1) (g .k) minus (countLine (g .v)) (now (g .out)) (p .put-count .result) _ (p .put-count .ensures)
 
 pub put-refusal-spec : {M : Type 1} → statement M
 put-refusal-spec =

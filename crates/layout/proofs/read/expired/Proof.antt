@@ -16,7 +16,6 @@ use Rattle.tables.proofs.Stored.{list-numbers}
 use Rattle.layout.specs.Layout.{stateAt}
 use Rattle.layout.proofs.Reading.{thread-read, list-read, count-read}
 use Rattle.layout.proofs.Expiring.{Marked, marked-next, marked-all}
-use borrow.Author.Needs.{needs}
 use Rattle.layout.proofs.read.expired.Statement.{statement}
 use Rattle.layout.proofs.read.expired.Tie as tie
 

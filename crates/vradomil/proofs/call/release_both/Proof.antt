@@ -11,7 +11,7 @@ use Rattle.rules.specs.WakeOp.{compares}
 use Rattle.rules.specs.Calls.{secondCap}
 use Rattle.effects.proofs.Effects.{end-sound, chosen}
 use Rattle.layout.specs.Layout.{stateAt}
-use Rattle.changes.specs.Change.{Stands, Took}
+use Rattle.changes.specs.Change.{Stands, TakenBytes}
 use Rattle.vradomil.proofs.Steps.{stands}
 use Rattle.vradomil.proofs.Effects.{stands-ended, ended-few, both-done}
 use borrow.Author.Needs.{needs}
@@ -28,7 +28,7 @@ sound c = tables-sound (stateAt (now (c .args .b))) (c .pre .held .sound)
 took : (c : tie.After-end-first)
     → let h = c .before .before .before .before .before .before .before in
     let g = h .before .before .before .before .before .before .before in
-    Took (endFirst Woken (flagged (h .hits .result)) (g .args .c .val) (stateAt (now (g .args .b)))) (c .end-first .result) (c .end-first .last .0)
+    TakenBytes (endFirst Woken (flagged (h .hits .result)) (g .args .c .val) (stateAt (now (g .args .b)))) (c .end-first .result) (c .end-first .last .0)
 took c =
     let g = c .before .before .before .before .before .before .before .before .before .before .before .before .before .before in
     c .end-first .ensures (stateAt (now (g .args .b))) (stands (now (g .args .b)) (g .pre .held))

@@ -10,7 +10,7 @@ use Rattle.rules.specs.Commands.{commandOf}
 use Rattle.rules.specs.Calls.{matches, candidates}
 use Rattle.effects.proofs.Effects.{chosen}
 use Rattle.layout.specs.Layout.{stateAt}
-use Rattle.changes.specs.Change.{Stands, Took}
+use Rattle.changes.specs.Change.{Stands, TakenBytes}
 use Rattle.vradomil.proofs.Steps.{stands}
 use Rattle.rules.specs.declared.event.Uses.{Uses}
 use mathlib.Core.Bool.{cond}
@@ -37,7 +37,7 @@ found c =
 took : (c : tie.After-end-first)
     → let h = c .before .before .before in
     let g = h .before .before .before .before .before .before .before in
-    Took (endFirst Woken (flagged (h .hits .result)) (g .args .c .val) (stateAt (now (g .args .b)))) (c .end-first .result) (c .end-first .last .0)
+    TakenBytes (endFirst Woken (flagged (h .hits .result)) (g .args .c .val) (stateAt (now (g .args .b)))) (c .end-first .result) (c .end-first .last .0)
 took c =
     let g = c .before .before .before .before .before .before .before .before .before .before in
     c .end-first .ensures (stateAt (now (g .args .b))) (stands (now (g .args .b)) (g .pre .held))

@@ -19,7 +19,7 @@ use Rattle.rules.specs.Events.{refusals, effect, clockEffect}
 use Rattle.tables.specs.Tables.{world}
 use Rattle.layout.specs.Layout.{tablesAt, stateAt, wordsAt}
 use Rattle.layout.specs.Check.{Held}
-use Rattle.changes.specs.Change.{Took}
+use Rattle.changes.specs.Change.{TakenBytes}
 use Rattle.vradomil.specs.Host.{seen}
 use Rattle.vradomil.proofs.Steps.{stands, event-refused, event-passed, changes-tables-refused, changes-tables-done}
 use Rattle.vradomil.proofs.Effects.{ended-few, answered-leaves}
@@ -66,7 +66,7 @@ own c =
 took : (c : tie.After-end-first)
     → let p = c .before .before .before .before .before .before .before in
     let b = now (start (p .before .before) .args .tables) in
-    Took (endFirst TimedOut (flagged (c .before .before .expired .result)) threads (stateAt b)) (c .end-first .result) (c .end-first .last .0)
+    TakenBytes (endFirst TimedOut (flagged (c .before .before .expired .result)) threads (stateAt b)) (c .end-first .result) (c .end-first .last .0)
 took c =
     let p = c .before .before .before .before .before .before .before in
     let b = now (start (p .before .before) .args .tables) in

@@ -23,7 +23,7 @@ use Rattle.rules.proofs.Passed.{thread-process, thread-index}
 use Rattle.kernel.proofs.Events.{interrupt-ends}
 use Rattle.layout.specs.Layout.{stateAt, wordsAt}
 use Rattle.layout.specs.Check.{Held}
-use Rattle.changes.specs.Change.{Took}
+use Rattle.changes.specs.Change.{TakenBytes}
 use Rattle.vradomil.specs.Host.{seen}
 use Rattle.vradomil.proofs.Steps.{stands, took-done, interrupt-answers, event-refused, event-passed, changes-tables-refused, changes-tables-done}
 use Rattle.vradomil.proofs.Effects.{ended-few, answered-leaves}
@@ -58,7 +58,7 @@ own c =
 took : (c : tie.After-end-first)
     → let p = c .before .before .before .before .before in
     let b = now (start (p .before .before) .args .tables) in
-    Took (endFirst Interrupted (flagged (one (c .before .before .thread-index .result))) 1 (stateAt b)) (c .end-first .result) (c .end-first .last .0)
+    TakenBytes (endFirst Interrupted (flagged (one (c .before .before .thread-index .result))) 1 (stateAt b)) (c .end-first .result) (c .end-first .last .0)
 took c =
     let p = c .before .before .before .before .before in
     let b = now (start (p .before .before) .args .tables) in
