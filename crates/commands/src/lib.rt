@@ -10,9 +10,8 @@ use rules::event::Call;
 use rules::event::Command;
 use rules::event::Uses;
 use tables::PROCESSES;
-use tables::THREADS_PER_PROCESS;
+use tables::State;
 use tables::WORD_BYTES;
-use tables::WORDS_PER_PROCESS;
 
 const PRIVATE_BIT: u32 = 128;
 
@@ -137,13 +136,14 @@ pub fn mask_of(c: Call, given: bool) -> u32
 pub fn thread_index(process: u8, index: u8) -> usize
     ensures { λ r. ⌜ ThreadAt process index r ⌝ }
 {
-    (process as usize) % PROCESSES * THREADS_PER_PROCESS + (index as usize) % THREADS_PER_PROCESS
+    (process as usize) % PROCESSES * State::THREADS_PER_PROCESS
+        + (index as usize) % State::THREADS_PER_PROCESS
 }
 
 // The place of a word; of an address that has none, some place.
 pub fn word_index(process: u8, address: u32) -> usize
     ensures { λ r. ⌜ WordAt process address r ⌝ }
 {
-    (process as usize) % PROCESSES * WORDS_PER_PROCESS
-        + ((address / WORD_BYTES) as usize) % WORDS_PER_PROCESS
+    (process as usize) % PROCESSES * State::WORDS_PER_PROCESS
+        + ((address / WORD_BYTES) as usize) % State::WORDS_PER_PROCESS
 }

@@ -8,7 +8,6 @@ mod script;
 use kernel::event::apply;
 use tables::State;
 use tables::WORDS;
-use tables::WORDS_PER_PROCESS;
 
 // One word more than the kernel takes, so that too long a memory can be lent.
 const MEMORY: usize = WORDS + 1;
@@ -48,7 +47,7 @@ fn words_after(words: [u32; MEMORY], kind: u8) -> [u32; MEMORY] {
 fn show_word(words: [u32; MEMORY], b: [u8; 32]) {
     let process = (b[0] as usize) % 16;
     let place = script::u32_at(b, 1) / 4 % 65536;
-    let i = WORDS_PER_PROCESS * process + place as usize;
+    let i = State::WORDS_PER_PROCESS * process + place as usize;
     let word = if i < MEMORY { words[i] } else { 0 };
     print::line(word as u64);
 }

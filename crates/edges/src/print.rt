@@ -1,7 +1,6 @@
 // What a script prints: answers, words and tables.
 use crate::script::last_code;
 use rules::answer::Answer;
-use tables::NO_ENTRY;
 use tables::State;
 use tables::THREADS;
 use tables::Thread;
@@ -64,7 +63,7 @@ fn thread(i: usize, t: Thread) {
 
 // An entry of the list, with its place.
 fn entry(i: usize, e: u8) {
-    if e != NO_ENTRY {
+    if e != State::NO_ENTRY {
         spaced(i as u64);
         text(b":");
         number(e as u64);

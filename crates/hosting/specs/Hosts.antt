@@ -2,7 +2,7 @@
 -- contract of its entry point.
 use mathlib.Core.Path.{_≡_}
 use mathlib.Core.List.{List, [], _∷_}
-use Prim.Native.Nat.{ℕ, _^_, _<_}
+use Prim.Native.Nat.{ℕ, _<_}
 use lib.IntN.{ℤ, pos}
 use lib.ListN.{getD}
 use Rattle.rules.specs.declared.event.Call.{Call}
@@ -10,7 +10,7 @@ use Rattle.rules.specs.declared.event.Event.{Event}
 use Rattle.rules.specs.declared.event.Event.the-variants.{Call as CallEvent, Store, Clock, Interrupt, Query}
 use Rattle.rules.specs.declared.answer.Answer.{Answer}
 use Rattle.rules.specs.declared.answer.Answer.the-variants.{Asleep, Count, Refused, Waiting}
-use Rattle.tables.specs.Sizes.{wordBytes}
+use Rattle.tables.specs.Sizes.{wordLimit, timeLimit}
 use Rattle.rules.specs.Answers.{answerNumbers}
 use Rattle.rules.specs.Events.{panel}
 use Rattle.layout.specs.Layout.{tablesAt}
@@ -27,15 +27,15 @@ pub data Hosted : Event → List ℕ → List ℕ → ℤ → List ℕ → List 
 
 -- The arguments that tables or words may come to hold fit their types in C.
 pub record CallFits (c : Call) : Type 0 where
-  pub uaddr : c .uaddr < 256 ^ 4
-  pub uaddr2 : c .uaddr2 < 256 ^ 4
-  pub val3 : c .val3 < 256 ^ 4
-  pub timeout : c .timeout < 256 ^ 8
+  pub uaddr : c .uaddr < wordLimit
+  pub uaddr2 : c .uaddr2 < wordLimit
+  pub val3 : c .val3 < wordLimit
+  pub timeout : c .timeout < timeLimit
 
 abbrev pub EventFits : Event → Type 0
 EventFits (CallEvent c) = CallFits c
-EventFits (Store p a v) = v < 256 ^ 4
-EventFits (Clock now) = now < 256 ^ 8
+EventFits (Store p a v) = v < wordLimit
+EventFits (Clock now) = now < timeLimit
 EventFits (Interrupt p i) = Unit {0}
 EventFits (Query p) = Unit {0}
 
@@ -47,7 +47,7 @@ pub data HostRuns : List Event → List ℕ → List ℕ → List ℤ → List �
 
 -- each word fits
 abbrev pub WordsFit : List ℕ → Type 0
-WordsFit ws = (i : ℕ) → getD ws i 0 < 256 ^ wordBytes
+WordsFit ws = (i : ℕ) → getD ws i 0 < wordLimit
 
 -- the one number that an answer is to a host
 abbrev pub hostNumber : Answer → ℤ

@@ -7,6 +7,8 @@ ghost use Rattle.rules.specs.Events.{waitingSet, panel};
 ghost use Rattle.kernel.specs.Follows.{Follows};
 use crate::call::call;
 use crate::refused;
+use commands::thread_index;
+use commands::word_index;
 use effects::counted;
 use effects::only_if;
 use refusals::of_clock;
@@ -21,10 +23,7 @@ use tables::LastAnswer;
 use tables::PROCESSES;
 use tables::State;
 use tables::THREADS;
-use tables::THREADS_PER_PROCESS;
 use tables::check::tables_ok;
-use commands::thread_index;
-use commands::word_index;
 
 // A store: one word is written, and nobody wakes.
 pub fn store(s: State, words: &mut [u32], process: u8, address: u32, value: u32) -> Answered
@@ -83,9 +82,9 @@ fn waiting_set(s: State, process: usize) -> u8
 {
     let mut bits: u32 = 0;
     let mut one: u32 = 1;
-    let base = THREADS_PER_PROCESS * process;
+    let base = State::THREADS_PER_PROCESS * process;
     let mut i: usize = 0;
-    while i < THREADS_PER_PROCESS {
+    while i < State::THREADS_PER_PROCESS {
         let t = s.threads[base + i];
         let b = only_if(t.waiting, one);
         bits += b;

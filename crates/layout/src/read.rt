@@ -22,9 +22,8 @@ use arrivals::index_of;
 use numbers::u32_at;
 use numbers::u64_at;
 use tables::LastAnswer;
-use tables::NO_ENTRY;
+use tables::State;
 use tables::THREADS;
-use tables::THREADS_PER_PROCESS;
 use tables::Thread;
 
 fn last_of(n: u8) -> LastAnswer
@@ -64,7 +63,7 @@ pub fn list_at(b: &[u8]) -> [u8; THREADS]
     requires { ⌜ length (now b) ≡ tablesSize ⌝ }
     ensures { λ r. ⌜ r ≡ take threads (drop listAt (now (b .entry))) ⌝ }
 {
-    let mut list = [NO_ENTRY; THREADS];
+    let mut list = [State::NO_ENTRY; THREADS];
     let mut i: usize = 0;
     while i < THREADS {
         list[i] = b[LIST_AT + i];
@@ -79,9 +78,9 @@ pub fn hits(b: &[u8], process: usize, uaddr: u32, any: bool, bitset: u32) -> [bo
     ensures { λ r. ⌜ Flags r (λ t. (any || sharesBit bitset (threadOf (stateAt (now (b .entry))) t)) && sleepsAt process uaddr (stateAt (now (b .entry))) t) ⌝ }
 {
     let mut flags = [false; THREADS];
-    let base = THREADS_PER_PROCESS * process;
+    let base = State::THREADS_PER_PROCESS * process;
     let mut i: usize = 0;
-    while i < THREADS_PER_PROCESS {
+    while i < State::THREADS_PER_PROCESS {
         let t = thread_at(b, base + i);
         let hit = t.is_hit(uaddr, any, bitset);
         flags[base + i] = hit;

@@ -10,22 +10,18 @@ ghost use Rattle.tables.specs.Steps.{changedBy, Numbers, Flags, flagged,
 
 pub mod check;
 
-pub use arrivals::NO_ENTRY;
 pub use arrivals::PROCESSES;
 pub use arrivals::THREADS;
-pub use arrivals::THREADS_PER_PROCESS;
 use arrivals::index_of;
 use arrivals::joined;
 use arrivals::split;
-
-pub const WORDS_PER_PROCESS: usize = State::WORDS_PER_PROCESS;
 
 pub const WORDS: usize = PROCESSES * State::WORDS_PER_PROCESS;
 
 pub const WORD_BYTES: u32 = 4;
 
 // Every address of a process is below this, and a multiple of WORD_BYTES.
-pub const PROCESS_BYTES: u32 = WORD_BYTES * (WORDS_PER_PROCESS as u32);
+pub const PROCESS_BYTES: u32 = WORD_BYTES * (State::WORDS_PER_PROCESS as u32);
 
 // How a thread's last ended sleep was answered; no other value can be held.
 pub enum LastAnswer {

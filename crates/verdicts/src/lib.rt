@@ -16,8 +16,8 @@ use rules::answer::Verdict;
 use rules::event::Call;
 use tables::PROCESS_BYTES;
 use tables::PROCESSES;
+use tables::State;
 use tables::THREADS;
-use tables::THREADS_PER_PROCESS;
 use tables::WORD_BYTES;
 
 const MAX_CAP: u32 = 2147483647;
@@ -32,7 +32,7 @@ pub fn row(x: Errno, applies: bool, below: Verdict) -> Verdict
 pub fn no_thread(process: u8, index: u8) -> bool
     ensures { λ r. ⌜ r ≡ noThread process index ⌝ }
 {
-    (PROCESSES <= process as usize) | (THREADS_PER_PROCESS <= index as usize)
+    (PROCESSES <= process as usize) | (State::THREADS_PER_PROCESS <= index as usize)
 }
 
 fn bad_argument(c: Call) -> bool

@@ -5,13 +5,12 @@ ghost use lib.ListN.{length, getD};
 ghost use Rattle.tables.specs.Sizes.{memoryWords};
 ghost use Rattle.layout.specs.Layout.{wordsAt, memorySize};
 ghost use Rattle.vradomil.specs.Host.{BuffersJudged};
+use layout::WORD_SIZE;
 use layout::check::sound;
 use numbers::u32_at;
 use rules::answer::Errno;
 use rules::answer::Verdict;
 use tables::WORDS;
-
-pub const WORD_SIZE: usize = 4;
 
 const WORDS_SIZE: usize = WORD_SIZE * WORDS;
 

@@ -10,14 +10,16 @@ ghost use Rattle.rules.specs.Events.{waitingSet, panel};
 ghost use Rattle.layout.specs.Layout.{tablesAt, stateAt, tablesSize, listAt, waitingAt};
 ghost use Rattle.vradomil.specs.Host.{ChangesWords, ChangesTables, Initialised, packed};
 use crate::answer::refusal;
-use crate::buffers::WORD_SIZE;
 use crate::buffers::judge_buffers;
 use changes::end_first;
+use commands::thread_index;
+use commands::word_index;
 use effects::only_if;
 use layout::CLOCK_AT;
 use layout::LIST_AT;
 use layout::TABLES_SIZE;
 use layout::WAITING_AT;
+use layout::WORD_SIZE;
 use layout::check::sound;
 use layout::read::expired;
 use numbers::put_u32;
@@ -26,14 +28,11 @@ use numbers::u64_at;
 use rules::answer::Errno;
 use rules::answer::Verdict;
 use tables::LastAnswer;
-use tables::NO_ENTRY;
 use tables::PROCESS_BYTES;
 use tables::PROCESSES;
+use tables::State;
 use tables::THREADS;
-use tables::THREADS_PER_PROCESS;
 use tables::WORD_BYTES;
-use commands::thread_index;
-use commands::word_index;
 use verdicts::no_thread;
 use verdicts::row;
 
@@ -116,9 +115,9 @@ fn waiting_set(tables: &[u8], process: usize) -> u8
 {
     let mut bits: u32 = 0;
     let mut one: u32 = 1;
-    let base = WAITING_AT + THREADS_PER_PROCESS * process;
+    let base = WAITING_AT + State::THREADS_PER_PROCESS * process;
     let mut i: usize = 0;
-    while i < THREADS_PER_PROCESS {
+    while i < State::THREADS_PER_PROCESS {
         let waiting = tables[base + i];
         let b = only_if(waiting == 1, one);
         bits += b;
@@ -150,7 +149,7 @@ fn fresh_byte(i: usize) -> u8
     ensures { λ r. ⌜ r ≡ cond (leb listAt i && ltb i waitingAt) noEntry 0 ⌝ }
 {
     if (LIST_AT <= i) & (i < WAITING_AT) {
-        NO_ENTRY
+        State::NO_ENTRY
     } else {
         0
     }
