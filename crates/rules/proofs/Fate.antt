@@ -25,7 +25,7 @@ use Rattle.rules.specs.Commands.{commandOf, isUnknown}
 use Rattle.rules.specs.Calls.{caller, wait, wake, requeue, wakeOp, callEffect}
 use Rattle.rules.specs.Events.{refusals, effect, step, clockEffect, interruptEffect}
 use Rattle.rules.specs.Claims.{Clear, wokenBy, movedBy, sleepsBy, Fate, stays, sleeps, wakes, moves, timesOut, isInterrupted}
-use Rattle.rules.proofs.Rows.{clear-pass, verdicts, step-refused, step-passed}
+use Rattle.rules.proofs.Rows.{verdicts, step-refused, step-clear}
 use Rattle.tables.proofs.Changes.{change-other, change-named}
 use Rattle.tables.proofs.Sound.{tables-sound}
 use Rattle.rules.proofs.Passed.{clear-passed, caller-below, sound-of}
@@ -71,7 +71,7 @@ module _ (w : World) (t : ℕ) where
   call-fate : (c : Call) → Clear (refusals (CallEvent c) w) → Fate (CallEvent c) w t
   unfolding refusals effect
   call-fate c r =
-      let done = step-passed (CallEvent c) w (clear-pass (refusals (CallEvent c) w) r) in
+      let done = step-clear (CallEvent c) w r in
       let same = ap (λ (o : Outcome). o .answer) done in
       by-cases (granted-answer (commandOf (c .op)) c w (clear-passed c w r .known))
       (λ h. sleeper-fate c (same ∙ h))
@@ -81,7 +81,7 @@ module _ (w : World) (t : ℕ) where
   unfolding refusals effect clockEffect expiredSleepers
   clock-fate now r =
       let g = sound-of w (r .1 .0) in
-      let done = ap (λ (o : Outcome). threadOf (o .world .state) t) (step-passed (Clock now) w (clear-pass (refusals (Clock now) w) r)) in
+      let done = ap (λ (o : Outcome). threadOf (o .world .state) t) (step-clear (Clock now) w r) in
       let took = took-expired now (w .state) g in
       cases (elem t (expiredSleepers now (w .state)))
       (λ e. timesOut now refl
@@ -94,7 +94,7 @@ module _ (w : World) (t : ℕ) where
   interrupt-fate p i r =
       let u = threadNumber p i in
       let g = sound-of w (r .1 .0) in
-      let done = ap (λ (o : Outcome). threadOf (o .world .state) t) (step-passed (Interrupt p i) w (clear-pass (refusals (Interrupt p i) w) r)) in
+      let done = ap (λ (o : Outcome). threadOf (o .world .state) t) (step-clear (Interrupt p i) w r) in
       cases (threadOf (w .state) u .waiting)
       (λ on.
       let took = took-interrupted u (w .state) g on in
@@ -108,10 +108,10 @@ module _ (w : World) (t : ℕ) where
   passed-fate : (e : Event) → Clear (refusals e w) → Fate e w t
   unfolding effect writeWord
   passed-fate (CallEvent c) r = call-fate c r
-  passed-fate (Store p a v) r = stays (ap (λ (o : Outcome). threadOf (o .world .state) t) (step-passed (Store p a v) w (clear-pass (refusals (Store p a v) w) r)))
+  passed-fate (Store p a v) r = stays (ap (λ (o : Outcome). threadOf (o .world .state) t) (step-clear (Store p a v) w r))
   passed-fate (Clock now) r = clock-fate now r
   passed-fate (Interrupt p i) r = interrupt-fate p i r
-  passed-fate (Query p) r = stays (ap (λ (o : Outcome). threadOf (o .world .state) t) (step-passed (Query p) w (clear-pass (refusals (Query p) w) r)))
+  passed-fate (Query p) r = stays (ap (λ (o : Outcome). threadOf (o .world .state) t) (step-clear (Query p) w r))
 
 -- There is no other way.
 pub fate : (e : Event) (w : World) (t : ℕ) → Fate e w t

@@ -22,7 +22,7 @@ use Rattle.rules.specs.Calls.{caller, timeoutGiven, deadlineOf, maskOf, 
 use Rattle.rules.specs.Events.{refusals, clockEffect, interruptEffect, effect, step}
 use Rattle.rules.specs.History.{start, final}
 use Rattle.rules.specs.Claims.{Clear}
-use Rattle.rules.proofs.Rows.{verdicts, step-refused, step-passed, clear-pass}
+use Rattle.rules.proofs.Rows.{step-keeps}
 use Rattle.tables.proofs.Changes.{arrivals-end}
 use Rattle.tables.proofs.Sound.{Sound, fresh-sound}
 use Rattle.tables.proofs.Kept.{below-ok, sound-end, sound-move, sound-sleep, sound-clock}
@@ -106,9 +106,7 @@ effect-valid (Interrupt p i) w g h = cases (threadOf (w .state) (threadNumber p 
 effect-valid (Query p) w g h = g
 
 pub step-valid : (e : Event) (w : World) → Valid w → Valid (step e w .world)
-step-valid e w g = verdicts e w
-    (λ x h. rw (step-refused e w x h) g)
-    (λ h. rw (step-passed e w (clear-pass (refusals e w) h)) (effect-valid e w g h))
+step-valid e w g = step-keeps Valid e w g (effect-valid e w g)
 
 pub final-valid : (h : List Event) (w : World) → Valid w → Valid (final h w)
 final-valid [] w g = g

@@ -17,7 +17,7 @@ use Rattle.rules.specs.Commands.{commandOf, isUnknown}
 use Rattle.rules.specs.Calls.{wait, wake, requeue, wakeOp, callEffect}
 use Rattle.rules.specs.Events.{refusals, clockEffect, interruptEffect, effect, step}
 use Rattle.rules.specs.Claims.{Clear}
-use Rattle.rules.proofs.Rows.{clear-pass, verdicts, step-refused, step-passed}
+use Rattle.rules.proofs.Rows.{verdicts, step-refused, step-clear}
 use Rattle.rules.proofs.Passed.{clear-passed}
 
 -- an answer that refuses
@@ -50,4 +50,4 @@ granted (Query p) w h = refl
 pub refused-row : (e : Event) (w : World) (x : Errno) → step e w .answer ≡ Refused x → first (refusals e w) ≡ Refuse x
 refused-row e w x h = verdicts e w
     (λ y r. let same : y ≡ x = cc (step-refused e w y r) in r ∙ ap Refuse same)
-    (λ r. clash (isRefusal (step e w .answer)) (cc) (cc (step-passed e w (clear-pass (refusals e w) r), granted e w r)))
+    (λ r. clash (isRefusal (step e w .answer)) (cc) (cc (step-clear e w r, granted e w r)))

@@ -2,9 +2,7 @@
 use mathlib.Core.Path.{_≡_, refl, sym, ap}
 use mathlib.Core.Bool.{false}
 use mathlib.Core.List.{List, [], _∷_}
-use Prim.Native.Nat.{ℕ}
-use native.Mathlib.Omega.{arith}
-use Rattle.lists.proofs.Tests.{cases}
+use Rattle.lists.proofs.Tests.{cases, never}
 use Rattle.rules.specs.declared.answer.Errno.{Errno}
 use Rattle.rules.specs.declared.answer.Verdict.{Verdict}
 use Rattle.rules.specs.declared.answer.Verdict.the-variants.{Refuse, Pass}
@@ -16,7 +14,7 @@ use Rattle.rules.specs.Events.{refusals, effect, step}
 use Rattle.rules.specs.Claims.{FirstOf, here, later, Clear}
 
 pub not-pass {ℓ} : {P : Type ℓ} {x : Errno} → Refuse x ≡ Pass → P
-not-pass e = let z : _≡_ {A = ℕ} 0 1 = cc in absurd (omega arith)
+not-pass e = never (cc)
 
 pub first-of : (x : Errno) (rs : List Row) → first rs ≡ Refuse x → FirstOf x rs
 first-of x [] h = not-pass (sym h)
@@ -57,6 +55,9 @@ pub step-passed : (e : Event) (w : World) → first (refusals e w) ≡ Pass → 
 unfolding step
 step-passed e w h = ap (λ v. judged v (effect e w) w) h
 
+pub step-clear : (e : Event) (w : World) → Clear (refusals e w) → step e w ≡ effect e w
+step-clear e w h = step-passed e w (clear-pass (refusals e w) h)
+
 -- by cases, on what the table of answers says of an event
 pub verdicts {ℓ} : {P : Type ℓ} (e : Event) (w : World) → ((x : Errno) → first (refusals e w) ≡ Refuse x → P)
     → (Clear (refusals e w) → P) → P
@@ -65,3 +66,7 @@ verdicts {P = P} e w refused passed = go (first (refusals e w)) refl
     go : (v : Verdict) → first (refusals e w) ≡ v → P
     go (Refuse x) h = refused x h
     go Pass h = passed (pass-clear (refusals e w) h)
+
+-- what holds before an event, and after its effect where no row refuses it, holds after its step
+pub step-keeps {ℓ} : (P : World → Type ℓ) (e : Event) (w : World) → P w → (Clear (refusals e w) → P (effect e w .world)) → P (step e w .world)
+step-keeps P e w old new = verdicts e w (λ x h. rw (step-refused e w x h) old) (λ h. rw (step-clear e w h) (new h))

@@ -18,7 +18,7 @@ use Rattle.rules.specs.WakeOp.{undefinedOp}
 use Rattle.rules.specs.Calls.{caller, timeoutGiven, deadlineOf, badArgument, badAddress, isWakeOp, differs, late, wait, wake, requeue, wakeOp, callEffect}
 use Rattle.rules.specs.Events.{refusals, effect, step}
 use Rattle.rules.specs.Claims.{IsWait, Sleeps, sleepsBy}
-use Rattle.rules.proofs.Rows.{clear-pass, verdicts, step-refused, step-passed}
+use Rattle.rules.proofs.Rows.{verdicts, step-refused, step-clear}
 use Rattle.tables.proofs.Sound.{tables-sound, sound-tables}
 use Rattle.rules.proofs.Passed.{Passed, clear-passed, passed-clear, uaddr-aligned, mask-given, uaddr-inside}
 
@@ -119,7 +119,7 @@ sleeps-passed c w s =
 -- a call that no row refuses does what its command does
 pub call-done : (c : Call) (w : World) → Passed (commandOf (c .op)) c w → step (CallEvent c) w ≡ callEffect (commandOf (c .op)) c w
 unfolding effect refusals
-call-done c w g = step-passed (CallEvent c) w (clear-pass (refusals (CallEvent c) w) (passed-clear c w g))
+call-done c w g = step-clear (CallEvent c) w (passed-clear c w g)
 
 pub asleep-sleeps : (c : Call) (w : World) → step (CallEvent c) w .answer ≡ Asleep → Sleeps c w
 unfolding refusals

@@ -26,7 +26,7 @@ use Rattle.rules.specs.Commands.{commandOf, uses}
 use Rattle.rules.specs.Calls.{matches, released, moved, releasedSecond, wait, wake, requeue, wakeOp, callEffect}
 use Rattle.rules.specs.Events.{refusals, effect, step, clockEffect, interruptEffect}
 use Rattle.rules.specs.Claims.{Clear, Took, Takes, woke, shifted, wokenCount, shiftedCount, countsMoves}
-use Rattle.rules.proofs.Rows.{clear-pass, verdicts, step-refused, step-passed}
+use Rattle.rules.proofs.Rows.{verdicts, step-refused, step-clear}
 use Rattle.tables.proofs.Sound.{Sound, waiting-below, once, listed-waiting}
 use Rattle.rules.proofs.Passed.{Passed, clear-passed, sound-of, addresses-apart}
 use Rattle.rules.proofs.Chosen.{candidate-at, moved-pass, atFirst, parts-listed, second-listed}
@@ -111,7 +111,7 @@ pub counted-clear : (e : Event) (w : World) (n : ℕ) → step e w .answer ≡ C
 counted-clear e w n h = verdicts e w (λ x r. never (cc (step-refused e w x r))) (λ r. r)
 
 pub counted-done : (e : Event) (w : World) (n : ℕ) → step e w .answer ≡ Count n → step e w ≡ effect e w
-counted-done e w n h = step-passed e w (clear-pass (refusals e w) (counted-clear e w n h))
+counted-done e w n h = step-clear e w (counted-clear e w n h)
 
 -- A wake or requeue takes these, and leaves every other record and the order of every other entry as they were.
 pub takes-first : (c : Call) (w : World) (n : ℕ) → step (CallEvent c) w .answer ≡ Count n
