@@ -13,7 +13,7 @@ use Rattle.rules.specs.declared.answer.Answer.{Answer}
 use Rattle.rules.specs.declared.answer.Answer.the-variants.{Asleep, Count, Refused, Waiting}
 use Rattle.tables.specs.Tables.{World, writeWord}
 use Rattle.tables.proofs.Sound.{sound-tables}
-use Rattle.rules.specs.Answers.{answerNumbers}
+use Rattle.rules.specs.Answers.{isRefused, answerNumbers}
 use Rattle.rules.specs.Events.{refusals, clockEffect, panel, effect, step}
 use Rattle.rules.specs.History.{belongs, final, answers, entriesOf}
 use Rattle.rules.proofs.Rows.{step-keeps}
@@ -22,7 +22,7 @@ use Rattle.rules.proofs.Theorems.{refusal-leaves-all}
 use Rattle.kernel.proofs.Events.{interrupt-words}
 use Rattle.layout.specs.Layout.{tablesBytes, wordsBytes, wordsAt}
 use Rattle.changes.proofs.Faithful.{tables-back}
-use Rattle.vradomil.specs.Host.{seen, isRefused, tablesLeft, wordsLeft, packed}
+use Rattle.vradomil.specs.Host.{seen, tablesLeft, wordsLeft, packed}
 use Rattle.vradomil.proofs.Theorems.{words-stand}
 use Rattle.hosting.specs.Hosts.{Hosted, called, stored, clocked, interrupted, queried, EventFits, HostRuns, over, next, hostNumber}
 use Rattle.hosting.proofs.Fitting.{FitsWorld, step-fits}

@@ -66,7 +66,7 @@ host-isolation p m n sm sn lm ln words {g} {h} e run other =
     let one = host-run m sm lm run in
     let two = host-run n sn ln other in (
       ap (entriesOf p g) (one .0) ∙ entries-map hostNumber p g (answers g (start (wordsAt m)))
-      ∙ ap (map hostNumber) (same .0)
-      ∙ sym (ap (entriesOf p h) (two .0) ∙ entries-map hostNumber p h (answers h (start (wordsAt n)))),
+          ∙ ap (map hostNumber) (same .0)
+          ∙ sym (ap (entriesOf p h) (two .0) ∙ entries-map hostNumber p h (answers h (start (wordsAt n)))),
       subst₂ (Alike p) (sym (one .1)) (sym (two .1)) (same .1),
     )

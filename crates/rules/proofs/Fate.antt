@@ -1,8 +1,6 @@
 -- What an event does to a thread, whatever the tables: the only ways in which a record changes, and so in which a sleeper comes back.
 use mathlib.Core.Path.{_≡_, refl, ap, _∙_}
-use mathlib.Core.Bool.{true, false}
 use mathlib.Core.List.{[], _∷_}
-use mathlib.Core.Logic.{_⊎_, inl, inr}
 use Prim.Native.Nat.{ℕ}
 use native.Mathlib.Omega.{arith}
 use lib.Dec.{eqb}
@@ -12,8 +10,6 @@ use Rattle.lists.proofs.Tests.{cases, clash, by-cases}
 use Rattle.lists.proofs.Filter.{all-filter}
 use Rattle.lists.proofs.Occurs.{elem-all}
 use Rattle.tables.specs.declared.LastAnswer.the-variants.{NoneYet}
-use Rattle.rules.specs.declared.event.Command.{Command}
-use Rattle.rules.specs.declared.event.Command.the-variants.{Wait, Wake, Requeue, CmpRequeue, WakeOp, WaitBitset, WakeBitset, Unknown}
 use Rattle.rules.specs.declared.event.Call.{Call}
 use Rattle.rules.specs.declared.event.Event.{Event}
 use Rattle.rules.specs.declared.event.Event.the-variants.{Call as CallEvent, Store, Clock, Interrupt, Query}
@@ -21,29 +17,17 @@ use Rattle.rules.specs.declared.answer.Answer.the-variants.{Asleep, Coun
 use Rattle.tables.specs.Sizes.{threads}
 use Rattle.tables.specs.Tables.{expired, expiredSleepers, World, threadNumber, running, threadOf, arrivals, fallAsleep, writeWord}
 use Rattle.rules.specs.Answers.{Outcome}
-use Rattle.rules.specs.Commands.{commandOf, isUnknown}
-use Rattle.rules.specs.Calls.{caller, wait, wake, requeue, wakeOp, callEffect}
+use Rattle.rules.specs.Commands.{commandOf}
+use Rattle.rules.specs.Calls.{caller}
 use Rattle.rules.specs.Events.{refusals, effect, step, clockEffect, interruptEffect}
 use Rattle.rules.specs.Claims.{Clear, wokenBy, movedBy, sleepsBy, Fate, stays, sleeps, wakes, moves, timesOut, isInterrupted}
 use Rattle.rules.proofs.Rows.{verdicts, step-refused, step-clear}
 use Rattle.tables.proofs.Changes.{change-other, change-named}
 use Rattle.tables.proofs.Sound.{tables-sound}
 use Rattle.rules.proofs.Passed.{clear-passed, caller-below, sound-of}
+use Rattle.rules.proofs.Refused.{granted-answer}
 use Rattle.rules.proofs.Sleeps.{asleep-sleeps, asleep-leaves}
 use Rattle.rules.proofs.Taken.{takes-first, took-expired, took-interrupted}
-
--- a call that is not refused sleeps or is answered a count
-granted-answer : (k : Command) (c : Call) (w : World) → isUnknown k ≡ false
-    → (callEffect k c w .answer ≡ Asleep) ⊎ ((n : ℕ) × (callEffect k c w .answer ≡ Count n))
-unfolding callEffect wait wake requeue wakeOp
-granted-answer Wait c w h = inl refl
-granted-answer WaitBitset c w h = inl refl
-granted-answer Wake c w h = inr (_, refl)
-granted-answer WakeBitset c w h = inr (_, refl)
-granted-answer Requeue c w h = inr (_, refl)
-granted-answer CmpRequeue c w h = inr (_, refl)
-granted-answer WakeOp c w h = inr (_, refl)
-granted-answer Unknown c w h = clash true refl h
 
 module _ (w : World) (t : ℕ) where
   sleeper-fate : (c : Call) → step (CallEvent c) w .answer ≡ Asleep → Fate (CallEvent c) w t

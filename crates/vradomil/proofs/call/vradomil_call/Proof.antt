@@ -86,7 +86,7 @@ returns-2 c =
     let p = f .before .before .before in
     let j = p .before .before in
     let g = start j in
-    calls-passed (call g) (now (g .args .tables)) (now (g .args .words)) _ (f .perform .result) _ _ (held p) (passed p .known) (sym (j .judge .ensures .verdict) ∙ p .enum-told .given .1)
+    calls-passed (call g) (now (g .args .tables)) (now (g .args .words)) _ (f .perform .result) _ _ (held p) (sym (j .judge .ensures .verdict) ∙ p .enum-told .given .1)
     (toZ-pos w32 {n = f .perform .result} (omega (arith, f .perform .ensures .0 .small))) (f .perform .ensures .0) (f .perform .ensures .1)
 
 pub vradomil-call-spec : {M : Type 1} → statement M

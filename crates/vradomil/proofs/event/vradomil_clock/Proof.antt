@@ -156,7 +156,7 @@ returns-3 c =
     let t = endFirst TimedOut f threads s in
     let w = whole (t .state) (sound-tables (t .state) (end-sound TimedOut f threads s (sound p))) in
     let early : ltb time (tablesAt b .clock) ≡ false = sym (ap (ltb time) (clock k)) ∙ le-ltb time (k .u64-at .result) (o .if1 .left) in
-    changes-tables-done (event g) b m _ (e .end-first .result) _ (held p) (own p ∙ rw early) refl (toZ-pos w32 {n = e .end-first .result} (omega (arith, few e)))
+    changes-tables-done (event g) b m _ (e .end-first .result) _ (held p) (own p ∙ rw early) (toZ-pos w32 {n = e .end-first .result} (omega (arith, few e)))
     (answered-leaves (clockEffect time (world s (wordsAt m))) _ (e .end-first .result) _ (clock-ends time s (wordsAt m) (sound p) (x .expired .result) (x .expired .ensures) t refl)
     (record {
       number = ap (λ q. pos q ∷ []) (took e .number);

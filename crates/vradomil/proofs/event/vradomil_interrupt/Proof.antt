@@ -25,7 +25,7 @@ use Rattle.layout.specs.Layout.{stateAt, wordsAt}
 use Rattle.layout.specs.Check.{Held}
 use Rattle.changes.specs.Change.{Took}
 use Rattle.vradomil.specs.Host.{seen}
-use Rattle.vradomil.proofs.Steps.{stands, took-done, interrupt-answers, event-refused, event-passed, changes-tables-refused, changes-tables-done}
+use Rattle.vradomil.proofs.Steps.{stands, took-done, event-refused, event-passed, changes-tables-refused, changes-tables-done}
 use Rattle.vradomil.proofs.Effects.{ended-few, answered-leaves}
 use borrow.Author.Needs.{needs}
 use Rattle.vradomil.proofs.event.vradomil_interrupt.Statement.{statement}
@@ -142,7 +142,7 @@ returns-3 c =
     let exists : noThread (g .args .process) (g .args .index) ≡ false = sym (n .no-thread .ensures) ∙ o .if1 .left in
     let at = t .thread-index .ensures .exact (thread-process (g .args .process) (g .args .index) exists) (thread-index (g .args .process) (g .args .index) exists) in
     let taken = endFirst Interrupted (flagged (one x)) 1 s in
-    changes-tables-done (event g) b m _ (e .end-first .result) _ (held p) (own p ∙ rw exists) (interrupt-answers (threadNumber (g .args .process) (g .args .index)) (seen b m))
+    changes-tables-done (event g) b m _ (e .end-first .result) _ (held p) (own p ∙ rw exists)
     (toZ-pos w32 {n = e .end-first .result} (omega (arith, few e)))
     (answered-leaves (interruptEffect (threadNumber (g .args .process) (g .args .index)) (world s (wordsAt m))) _ (e .end-first .result) _
     (interrupt-ends x s (wordsAt m) (sound p) (t .thread-index .ensures .inside) taken refl ∙ ap (λ q. answered (interruptEffect q (world s (wordsAt m)))) at)

@@ -21,7 +21,8 @@ use Rattle.rules.proofs.Rows.{pass-clear}
 use Rattle.layout.specs.Layout.{wordsAt, wordsBytes}
 use Rattle.vradomil.specs.Host.{seen}
 use Rattle.vradomil.proofs.Memory.{word-written}
-use Rattle.vradomil.proofs.Steps.{ownRows, event-refused, event-passed, changes-words-refused, number-passed, words-passed}
+use Rattle.rules.proofs.Rows.{ownRows}
+use Rattle.vradomil.proofs.Steps.{event-refused, event-passed, changes-words-refused, number-passed, words-passed}
 use borrow.Author.Needs.{needs}
 use Rattle.vradomil.proofs.event.vradomil_store.Statement.{statement}
 use Rattle.vradomil.proofs.event.vradomil_store.Tie as tie
@@ -125,8 +126,8 @@ returns-3 c =
     let long = l .judge-buffers .ensures .long (r .before .before .before .enum-told .given .1) in
     let h = sym (verdict r) ∙ pass in
     record {
-      number = number-passed (event g) b m _ h refl refl;
-      bytes = words-passed (event g) b m _ h refl refl _
+      number = number-passed (event g) b m _ h refl;
+      bytes = words-passed (event g) b m _ h refl _
           (p .put-u32 .ensures ∙ word-written memoryWords m (i .word-index .result) (g .args .value) long low (i .word-index .ensures .inside) ∙ ap (λ x. wordsBytes (set (wordsAt m) x (g .args .value))) at);
     }
 
