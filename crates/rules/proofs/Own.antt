@@ -27,7 +27,7 @@ use Rattle.rules.specs.WakeOp.{newWord}
 use Rattle.rules.specs.Calls.{wrongMemory, noThread, caller, secondCap, matches, candidates, released, moved, releasedSecond, wait, wake, requeue, wakeOp, callEffect, callRefusals, callRows, full}
 use Rattle.rules.specs.Events.{refusals, clockEffect, interruptEffect, bitsBelow, waitingSet, panel, effect, step}
 use Rattle.rules.specs.Claims.{Clear}
-use Rattle.rules.proofs.Rows.{Same, same-first, clear-pass, verdicts, step-refused, step-passed}
+use Rattle.rules.proofs.Rows.{Same, _then_, same-first, clear-pass, verdicts, step-refused, step-passed}
 use Rattle.tables.proofs.Sound.{room}
 use Rattle.rules.proofs.Preserved.{Valid}
 use Rattle.rules.proofs.Passed.{Passed, clear-passed, caller-below, memory-right, sound-right, thread-process, thread-index, uaddr-inside, uaddr2-inside}
@@ -172,48 +172,18 @@ call-rows : (c : Call) (w : World) → Valid w → Same (callRefusals c w) (call
 unfolding callRefusals callRows
 call-rows c w g =
     let p = c .process in
-    let k = commandOf (c .op) in (
-      refl,
-      same-memory p w g,
-      λ h1. (
-        refl,
-        same-tables p w g,
-        λ h2. (
-          refl,
-          refl,
-          λ h3. (
-            refl,
-            same-waiting p w g (c .index) (thread-index p (c .index) h3),
-            λ h4. (
-              refl,
-              refl,
-              λ h5. (
-                refl,
-                refl,
-                λ h6. (
-                  refl,
-                  refl,
-                  λ h7. (
-                    refl,
-                    refl,
-                    λ h8. (
-                      refl,
-                      rw (view-word p w (c .uaddr) (uaddr-inside k c h7)),
-                      λ h9. (
-                        refl,
-                        rw (view-state p w, view-clock p (w .state)),
-                        λ h10.
-                            (refl, room-too h3 h4, λ h11. tt),
-                      ),
-                    ),
-                  ),
-                ),
-              ),
-            ),
-          ),
-        ),
-      ),
-    )
+    same-memory p w g then λ h1.
+    same-tables p w g then λ h2.
+    refl then λ h3.
+    same-waiting p w g (c .index) (thread-index p (c .index) h3) then λ h4.
+    refl then λ h5.
+    refl then λ h6.
+    refl then λ h7.
+    refl then λ h8.
+    (rw (view-word p w (c .uaddr) (uaddr-inside (commandOf (c .op)) c h7))) then λ h9.
+    (rw (view-state p w, view-clock p (w .state))) then λ h10.
+    room-too h3 h4 then λ h11.
+    tt
   where
     room-too : noThread (c .process) (c .index) ≡ false → threadOf (w .state) (caller c) .waiting ≡ false
         → full (w .state .count) ≡ full (view (c .process) w .state .count)
@@ -278,13 +248,13 @@ module _ (w : World) (g : Valid w) where
   pub step-store : (p a v : ℕ) → viewOut p (step (Store p a v) w) ≡ step (Store p a v) (view p w)
   unfolding refusals effect
   step-store p a v = own-step p (Store p a v) w
-      (refl, same-memory p w g, λ h1. (refl, same-tables p w g, λ h2. (refl, refl, λ h3. (refl, refl, λ h4. (refl, refl, λ h5. tt)))))
+      (same-memory p w g then λ h1. same-tables p w g then λ h2. refl then λ h3. refl then λ h4. refl then λ h5. tt)
       (λ h. cc (view-write-own p a v w (h .1 .1 .1 .1 .0)))
 
   pub step-interrupt : (p i : ℕ) → viewOut p (step (Interrupt p i) w) ≡ step (Interrupt p i) (view p w)
   unfolding refusals effect interruptEffect
   step-interrupt p i = own-step p (Interrupt p i) w
-      (refl, same-memory p w g, λ h1. (refl, same-tables p w g, λ h2. (refl, refl, λ h3. tt)))
+      (same-memory p w g then λ h1. same-tables p w g then λ h2. refl then λ h3. tt)
       (λ h.
       let t = threadNumber p i in
       let small = thread-index p i (h .1 .1 .0) in
@@ -303,7 +273,7 @@ module _ (w : World) (g : Valid w) where
   step-clock p now =
       let out = expiredSleepers now (w .state) in
       kept-step p (Clock now) w
-      (refl, same-memory p w g, λ h1. (refl, same-tables p w g, λ h2. (refl, rw (view-state p w, view-clock p (w .state)), λ h3. tt)))
+      (same-memory p w g then λ h1. same-tables p w g then λ h2. (rw (view-state p w, view-clock p (w .state))) then λ h3. tt)
       (λ h. cc (
         view-with-state p (endSleeps TimedOut out (withClock now (w .state))) w,
         view-end p TimedOut out (withClock now (w .state)),

@@ -78,6 +78,16 @@ Same [] (q ∷ qs) = ⊥
 Same (r ∷ rs) [] = ⊥
 Same (r ∷ rs) (q ∷ qs) = (r .errno ≡ q .errno) × (r .applies ≡ q .applies) × (r .applies ≡ false → Same rs qs)
 
+-- Two tables that agree, one row to a line: the tests of this row agree, then, where it does not apply, those of the next.
+infixr 30 _then_
+pub _then_ : {x : Errno} {A B : Type 0} → A → B → (x ≡ x) × A × B
+a then b = (refl, a, b)
+
+-- A table of which no row applies, one row to a line: this row does not apply, and neither do the next.
+infixr 30 _and_
+pub _and_ : {A B : Type 0} → A → B → A × B
+a and b = (a, b)
+
 pub same-first : (rs qs : List Row) → Same rs qs → first rs ≡ first qs
 same-first [] [] h = refl
 same-first [] (q ∷ qs) h = absurd h
