@@ -3,12 +3,10 @@ use mathlib.Core.Path.{_≡_, refl, ap, _∙_}
 use mathlib.Core.List.{[], _∷_}
 use Prim.Native.Nat.{ℕ}
 use native.Mathlib.Omega.{arith}
-use lib.Dec.{eqb}
-use borrow.Author.Tests.{eqb-true}
 use Rattle.lists.specs.Lists.{elem}
-use Rattle.lists.proofs.Tests.{cases, clash, by-cases}
+use Rattle.lists.proofs.Tests.{cases, by-cases}
 use Rattle.lists.proofs.Filter.{all-filter}
-use Rattle.lists.proofs.Occurs.{elem-all}
+use Rattle.lists.proofs.Occurs.{elem-one, elem-all}
 use Rattle.tables.specs.declared.LastAnswer.the-variants.{NoneYet}
 use Rattle.rules.specs.declared.event.Call.{Call}
 use Rattle.rules.specs.declared.event.Event.{Event}
@@ -38,7 +36,7 @@ module _ (w : World) (t : ℕ) where
       let left = ap (λ v. threadOf (v .state) t) (asleep-leaves c w h) in
       cases (elem t (caller c ∷ []))
       (λ e.
-      let it : t ≡ caller c = eqb-true t (caller c) (cases (eqb t (caller c)) (λ d. d) (λ d. clash (elem t (caller c ∷ [])) e (rw d))) in
+      let it : t ≡ caller c = elem-one t (caller c) e in
       let low = caller-below c (s .process) (s .index) in
       let size = tables-sound (w .state) (s .tables) .records in
       sleeps c refl it s (left ∙ change-named f (caller c ∷ []) (w .state .threads) t (running NoneYet) e (omega arith)))
@@ -84,7 +82,7 @@ module _ (w : World) (t : ℕ) where
       let took = took-interrupted u (w .state) g on in
       cases (elem t (u ∷ []))
       (λ e.
-      let it : t ≡ u = eqb-true t u (cases (eqb t u) (λ d. d) (λ d. clash (elem t (u ∷ [])) e (rw d))) in
+      let it : t ≡ u = elem-one t u e in
       isInterrupted p i refl it (ap (λ v. threadOf (w .state) v .waiting) it ∙ on) (done ∙ rw on (took .ran t e)))
       (λ e. stays (done ∙ rw on (took .stayed t e refl))))
       (λ off. stays (done ∙ rw off))

@@ -7,8 +7,6 @@ use lib.ListN.{length, length-set}
 use lib.Dec.{eqb, leb, ltb}
 use borrow.Author.Tests.{leb-false, lt-ltb}
 use Rattle.lists.proofs.Tests.{cases, and-intro}
-use Rattle.tables.specs.declared.State.{State}
-use Rattle.tables.specs.declared.LastAnswer.{LastAnswer}
 use Rattle.tables.specs.declared.LastAnswer.the-variants.{Woken, Interrupted}
 use Rattle.rules.specs.declared.event.Command.{Command}
 use Rattle.rules.specs.declared.event.Command.the-variants.{Wait, Wake, Requeue, CmpRequeue, WakeOp, WaitBitset, WakeBitset, Unknown}
@@ -25,7 +23,7 @@ use Rattle.rules.specs.Claims.{Clear}
 use Rattle.rules.proofs.Rows.{step-keeps}
 use Rattle.tables.proofs.Changes.{arrivals-end}
 use Rattle.tables.proofs.Sound.{Sound, fresh-sound}
-use Rattle.tables.proofs.Kept.{below-ok, sound-end, sound-move, sound-sleep, sound-clock}
+use Rattle.tables.proofs.Kept.{below-ok, ending, sound-move, sound-sleep, sound-clock}
 use Rattle.rules.proofs.Chosen.{moved-left}
 use Rattle.rules.proofs.Passed.{Passed, clear-passed, caller-below, uaddr-aligned, uaddr2-aligned, mask-given, uaddr-inside, uaddr2-inside}
 
@@ -33,9 +31,6 @@ use Rattle.rules.proofs.Passed.{Passed, clear-passed, caller-below, uad
 pub record Valid (w : World) : Type 0 where
   pub memory : length (w .words) ≡ memoryWords
   pub sound : Sound (w .state)
-
-ending : (a : LastAnswer) (ts : List ℕ) (s : State) → Sound s → Sound (endSleeps a ts s)
-ending a ts s g = sound-end a ts s (g .records) (λ t e. g .kept t) (g .exact)
 
 written : (p a v : ℕ) (w : World) → Valid w → Valid (writeWord p a v w)
 unfolding writeWord
