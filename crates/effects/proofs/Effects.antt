@@ -134,3 +134,20 @@ by-uses Requeue c w h = refl
 by-uses CmpRequeue c w h = refl
 by-uses WakeOp c w h = refl
 by-uses Unknown c w h = clash true refl h
+
+-- which of the four a call is, by what its command uses
+module _ (k : Command) (c : Call) (w : World) (known : isUnknown k ≡ false) (u : Uses) (is : u ≡ uses k) where
+  by : callEffect k c w ≡ cond (u .deadline) (wait k c w) (cond (u .moves) (requeue k c w) (cond (u .second) (wakeOp k c w) (wake k c w)))
+  by = by-uses k c w known ∙ sym (ap (λ (v : Uses). cond (v .deadline) (wait k c w) (cond (v .moves) (requeue k c w) (cond (v .second) (wakeOp k c w) (wake k c w)))) is)
+
+  pub is-wait : u .deadline ≡ true → callEffect k c w ≡ wait k c w
+  is-wait d = by ∙ rw d
+
+  pub is-requeue : u .deadline ≡ false → u .moves ≡ true → callEffect k c w ≡ requeue k c w
+  is-requeue d m = by ∙ rw (d, m)
+
+  pub is-wakeOp : u .deadline ≡ false → u .moves ≡ false → u .second ≡ true → callEffect k c w ≡ wakeOp k c w
+  is-wakeOp d m t = by ∙ rw (d, m, t)
+
+  pub is-wake : u .deadline ≡ false → u .moves ≡ false → u .second ≡ false → callEffect k c w ≡ wake k c w
+  is-wake d m t = by ∙ rw (d, m, t)

@@ -12,7 +12,6 @@ use Rattle.rules.specs.declared.event.Call.{Call}
 use Rattle.rules.specs.declared.event.Event.{Event}
 use Rattle.rules.specs.declared.event.Event.the-variants.{Call as CallEvent, Store, Clock, Interrupt, Query}
 use Rattle.rules.specs.declared.answer.Answer.the-variants.{Asleep, Count}
-use Rattle.tables.specs.Sizes.{threads}
 use Rattle.tables.specs.Tables.{expired, expiredSleepers, World, threadNumber, running, threadOf, arrivals, fallAsleep, writeWord}
 use Rattle.rules.specs.Answers.{Outcome}
 use Rattle.rules.specs.Commands.{commandOf}

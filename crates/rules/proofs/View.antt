@@ -16,7 +16,7 @@ use Rattle.tables.specs.declared.State.{State}
 use Rattle.tables.specs.declared.Thread.{Thread}
 use Rattle.tables.specs.declared.LastAnswer.{LastAnswer}
 use Rattle.tables.specs.declared.LastAnswer.the-variants.{NoneYet}
-use Rattle.tables.specs.Sizes.{threadsPerProcess, wordsPerProcess, bytesPerProcess, threads}
+use Rattle.tables.specs.Sizes.{threadsPerProcess, wordsPerProcess, bytesPerProcess}
 use Rattle.tables.specs.Tables.{outside, World, threadNumber, processOf, wordNumber, wordAt, running, threadOf, arrivals, change, ended, movedTo, withArrivals, withThreads, withClock, endSleeps, moveSleeps, fallAsleep, writeWord}
 use Rattle.tables.proofs.Changes.{arrivals-with, change-none}
 use Rattle.tables.proofs.Sound.{Sound, running-ok, sound-with}

@@ -4,6 +4,9 @@ use mathlib.Core.Bool.{false}
 use mathlib.Core.List.{List, [], _∷_, _++_}
 use Prim.Native.Nat.{ℕ, _≤_}
 use lib.IntN.{ℤ, pos}
+use mir.Syntax.{w32}
+use mir.Val.{SFits, toZ, ofZ}
+use mir.Facts.{toZ-ofZ}
 use Rattle.tables.specs.declared.State.{State}
 use Rattle.tables.specs.declared.Taken.{Taken}
 use Rattle.tables.specs.Sizes.{maxCap}
@@ -24,12 +27,19 @@ use Rattle.rules.proofs.Refused.{granted}
 use Rattle.tables.specs.Tables.{world}
 use Rattle.layout.specs.Layout.{tablesBytes, stateAt, wordsAt, wordsBytes}
 use Rattle.layout.specs.Check.{Held}
-use Rattle.changes.specs.Change.{Stands, Took}
+use Rattle.changes.specs.Change.{Stands, Standing, Took}
 use Rattle.vradomil.specs.Host.{seen, tablesLeft, wordsLeft, Numbered, ChangesTables, ChangesWords, Calls, BuffersJudged, Done, Leaves}
 
 -- the tables that sound bytes stand for
 pub stands : (b : List ℕ) → Held b → Stands (stateAt b) b
 stands b h = record { bytes = h .bytes; sound = h .sound }
+
+pub standing : (b : List ℕ) → Held b → Standing b
+standing b h = record { state = stateAt b; stands = stands b h }
+
+-- a number that fits 32 bits is read back as it was stored
+pub read-back : {z : ℤ} {l : List ℤ} → (z ∷ [] ≡ l) × SFits w32 z → toZ w32 (ofZ w32 z) ∷ [] ≡ l
+read-back h = ap (λ z. z ∷ []) (toZ-ofZ (h .1)) ∙ h .0
 
 -- a count of sleepers that were taken, as a number and bytes
 pub took-done : (t : Taken) (n : ℕ) (after : List ℕ) → Took t n after → n ≤ maxCap → Done (Count (t .n)) (t .state) n after
