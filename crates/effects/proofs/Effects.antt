@@ -123,7 +123,7 @@ module _ (k : Command) (c : Call) (w : World) (g : Sound (w .state)) (f h : ℕ 
       λ i. record { answer = Count (n i + m i); state = s i }
 
 -- which command it is, by what it uses
-pub by-uses : (k : Command) (c : Call) (w : World) → isUnknown k ≡ false
+by-uses : (k : Command) (c : Call) (w : World) → isUnknown k ≡ false
     → callEffect k c w ≡ cond (uses k .deadline) (wait k c w) (cond (uses k .moves) (requeue k c w) (cond (uses k .second) (wakeOp k c w) (wake k c w)))
 unfolding callEffect
 by-uses Wait c w h = refl

@@ -18,7 +18,7 @@ use Rattle.rules.specs.Commands.{commandOf, uses}
 use Rattle.rules.specs.Calls.{isWakeOp, matches, secondCap, candidates, released, moved, releasedSecond, wait, wake, requeue, wakeOp, callEffect}
 use Rattle.rules.specs.Events.{effect, step}
 use Rattle.rules.specs.Claims.{SameSleepers, NamedAlike}
-use Rattle.rules.proofs.Taken.{counted-done}
+use Rattle.rules.proofs.Rows.{counted-done}
 
 candidates-alike : (q : Thread → Bool) (p a : ℕ) (s u : State) → SameSleepers p a s u → candidates q p a s ≡ candidates q p a u
 unfolding candidates

@@ -32,18 +32,10 @@ use Rattle.tables.proofs.Sound.{room}
 use Rattle.rules.proofs.Preserved.{Valid}
 use Rattle.rules.proofs.Passed.{Passed, clear-passed, caller-below, memory-right, sound-right, thread-process, thread-index, uaddr-inside, uaddr2-inside}
 use Rattle.rules.proofs.Chosen.{candidate, candidate-own, candidates-are, released-pass, moved-pass, second-pass, atFirst, atSecond}
-use Rattle.rules.proofs.View.{ownThread, viewState, view, own-thread, view-arrivals, view-own, view-clock, view-word, view-end, view-move, view-sleep-own, view-with-clock, view-write-own, view-valid}
+use Rattle.rules.proofs.View.{ownThread, viewState, view, view-state, view-with-state, own-thread, view-arrivals, view-own, view-clock, view-word, view-end, view-move, view-sleep-own, view-with-clock, view-write-own, view-valid}
 
 abbrev pub viewOut : ℕ → Outcome → Outcome
 viewOut p o = outcome (o .answer) (view p (o .world))
-
-pub view-state : (p : ℕ) (w : World) → view p w .state ≡ viewState p (w .state)
-unfolding view
-view-state p w = refl
-
-pub view-with-state : (p : ℕ) (s : State) (w : World) → view p (withState s w) ≡ withState (viewState p s) (view p w)
-unfolding view
-view-with-state p s w = refl
 
 -- whom the process's wakes and requeues take: own sleepers, whom the view shows
 module _ (p : ℕ) where

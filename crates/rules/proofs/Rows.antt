@@ -2,13 +2,14 @@
 use mathlib.Core.Path.{_≡_, refl, sym, ap}
 use mathlib.Core.Bool.{Bool, true, false, not}
 use mathlib.Core.List.{List, [], _∷_, _++_}
+use Prim.Native.Nat.{ℕ}
 use lib.Dec.{ltb}
 use Rattle.lists.proofs.Tests.{cases, clash, never}
 use Rattle.rules.specs.declared.answer.Errno.{Errno}
 use Rattle.rules.specs.declared.answer.Errno.the-variants.{ENXIO, EBADF, ESRCH, EINVAL, EFAULT}
 use Rattle.rules.specs.declared.answer.Verdict.{Verdict}
 use Rattle.rules.specs.declared.answer.Verdict.the-variants.{Refuse, Pass}
-use Rattle.rules.specs.declared.answer.Answer.the-variants.{Refused}
+use Rattle.rules.specs.declared.answer.Answer.the-variants.{Count, Refused}
 use Rattle.rules.specs.declared.event.Event.{Event}
 use Rattle.rules.specs.declared.event.Event.the-variants.{Call as CallEvent, Store, Clock, Interrupt, Query}
 use Rattle.tables.specs.Tables.{World, threadOf, wordAt, aligned, outside}
@@ -35,6 +36,11 @@ pass-clear (r ∷ rs) h = cases (r .applies) (λ e. not-pass {x = r .errno} (cc)
 pub clear-pass : (rs : List Row) → Clear rs → first rs ≡ Pass
 clear-pass [] h = refl
 clear-pass (r ∷ rs) h = cc (h .0, clear-pass rs (h .1))
+
+-- A table of which no row applies, one row to a line: this row does not apply, and neither do the next.
+infixr 30 _and_
+pub _and_ : {A B : Type 0} → A → B → A × B
+a and b = (a, b)
 
 -- rows before others: the first of them that applies answers, and where none does, the others answer
 pub refused-before : (rs qs : List Row) (x : Errno) → first rs ≡ Refuse x → first (rs ++ qs) ≡ Refuse x
@@ -83,11 +89,6 @@ infixr 30 _then_
 pub _then_ : {x : Errno} {A B : Type 0} → A → B → (x ≡ x) × A × B
 a then b = (refl, a, b)
 
--- A table of which no row applies, one row to a line: this row does not apply, and neither do the next.
-infixr 30 _and_
-pub _and_ : {A B : Type 0} → A → B → A × B
-a and b = (a, b)
-
 pub same-first : (rs qs : List Row) → Same rs qs → first rs ≡ first qs
 same-first [] [] h = refl
 same-first [] (q ∷ qs) h = absurd h
@@ -115,6 +116,13 @@ verdicts {P = P} e w refused passed = go (first (refusals e w)) refl
     go : (v : Verdict) → first (refusals e w) ≡ v → P
     go (Refuse x) h = refused x h
     go Pass h = passed (pass-clear (refusals e w) h)
+
+-- an event that is answered a count was not refused
+pub counted-clear : (e : Event) (w : World) (n : ℕ) → step e w .answer ≡ Count n → Clear (refusals e w)
+counted-clear e w n h = verdicts e w (λ x r. never (cc (step-refused e w x r))) (λ r. r)
+
+pub counted-done : (e : Event) (w : World) (n : ℕ) → step e w .answer ≡ Count n → step e w ≡ effect e w
+counted-done e w n h = step-clear e w (counted-clear e w n h)
 
 -- what holds before an event, and after its effect where no row refuses it, holds after its step
 pub step-keeps {ℓ} : (P : World → Type ℓ) (e : Event) (w : World) → P w → (Clear (refusals e w) → P (effect e w .world)) → P (step e w .world)

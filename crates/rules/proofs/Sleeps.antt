@@ -34,12 +34,12 @@ wait-answer CmpRequeue c w h = never (cc)
 wait-answer WakeOp c w h = never (cc)
 wait-answer Unknown c w h = never (cc)
 
-pub wait-is : (k : Command) (c : Call) (w : World) → IsWait k → callEffect k c w ≡ wait k c w
+wait-is : (k : Command) (c : Call) (w : World) → IsWait k → callEffect k c w ≡ wait k c w
 unfolding callEffect
 wait-is k c w i = by-cases i (λ e. rw e) (λ e. rw e)
 
 -- what a wait uses
-pub wait-deadline : (k : Command) → IsWait k → uses k .deadline ≡ true
+wait-deadline : (k : Command) → IsWait k → uses k .deadline ≡ true
 wait-deadline k i = by-cases i (λ e. rw e) (λ e. rw e)
 
 wait-compare : (k : Command) → IsWait k → uses k .compare ≡ true
@@ -117,7 +117,7 @@ sleeps-passed c w s =
     }
 
 -- a call that no row refuses does what its command does
-pub call-done : (c : Call) (w : World) → Passed (commandOf (c .op)) c w → step (CallEvent c) w ≡ callEffect (commandOf (c .op)) c w
+call-done : (c : Call) (w : World) → Passed (commandOf (c .op)) c w → step (CallEvent c) w ≡ callEffect (commandOf (c .op)) c w
 unfolding effect refusals
 call-done c w g = step-clear (CallEvent c) w (passed-clear c w g)
 

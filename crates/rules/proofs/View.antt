@@ -17,7 +17,7 @@ use Rattle.tables.specs.declared.Thread.{Thread}
 use Rattle.tables.specs.declared.LastAnswer.{LastAnswer}
 use Rattle.tables.specs.declared.LastAnswer.the-variants.{NoneYet}
 use Rattle.tables.specs.Sizes.{threadsPerProcess, wordsPerProcess, bytesPerProcess}
-use Rattle.tables.specs.Tables.{outside, World, threadNumber, processOf, wordNumber, wordAt, running, threadOf, arrivals, change, ended, movedTo, withArrivals, withThreads, withClock, endSleeps, moveSleeps, fallAsleep, writeWord}
+use Rattle.tables.specs.Tables.{outside, World, threadNumber, processOf, wordNumber, wordAt, running, threadOf, arrivals, change, ended, movedTo, withArrivals, withThreads, withClock, endSleeps, moveSleeps, fallAsleep, writeWord, withState}
 use Rattle.tables.proofs.Changes.{arrivals-with, change-none}
 use Rattle.tables.proofs.Sound.{Sound, running-ok, sound-with}
 use Rattle.tables.proofs.Flags.{process-own}
@@ -41,6 +41,14 @@ viewState p s =
 unfoldable pub view : ℕ → World → World
 view p w = record { state = viewState p (w .state); words = onlyOwn (ownWord p) 0 (w .words) }
 
+pub view-state : (p : ℕ) (w : World) → view p w .state ≡ viewState p (w .state)
+unfolding view
+view-state p w = refl
+
+pub view-with-state : (p : ℕ) (s : State) (w : World) → view p (withState s w) ≡ withState (viewState p s) (view p w)
+unfolding view
+view-with-state p s w = refl
+
 module _ {A : Type 0} (own : ℕ → Bool) (d : A) where
   getD-own : (l : List A) (i : ℕ) (z : A) → own i ≡ true → getD (onlyOwn own d l) i z ≡ getD l i z
   getD-own l i z e = getD-update-fixed (λ i x. cond (own i) x d) l i z (rw e) ∙ rw e
@@ -58,13 +66,13 @@ module _ {A : Type 0} (own : ℕ → Bool) (d : A) where
 pub own-thread : (p i : ℕ) → i < threadsPerProcess → ownThread p (threadNumber p i) ≡ true
 own-thread p i h = process-own p i h
 
-pub own-word : (p a : ℕ) → outside a ≡ false → ownWord p (wordNumber p a) ≡ true
+own-word : (p a : ℕ) → outside a ≡ false → ownWord p (wordNumber p a) ≡ true
 own-word p a h = eq-eqb (wordNumber p a / wordsPerProcess) p (let k = leb-false bytesPerProcess a h in omega arith)
 
 pub other-thread : (p q i : ℕ) → (p ≡ q → ⊥) → i < threadsPerProcess → ownThread p (threadNumber q i) ≡ false
 other-thread p q i apart h = ne-eqb (processOf (threadNumber q i)) p (λ e. apart (omega arith))
 
-pub other-word : (p q a : ℕ) → (p ≡ q → ⊥) → outside a ≡ false → ownWord p (wordNumber q a) ≡ false
+other-word : (p q a : ℕ) → (p ≡ q → ⊥) → outside a ≡ false → ownWord p (wordNumber q a) ≡ false
 other-word p q a apart h =
     ne-eqb (wordNumber q a / wordsPerProcess) p (λ e. let k = leb-false bytesPerProcess a h in apart (omega arith))
 

@@ -45,7 +45,7 @@ module _ (f : Thread → Thread) (ts l : List ℕ) (s : State) (size : length (s
       (λ t. altered-record (λ r. recordOk (s .clock) r ≡ true) t (λ e h. running-ok (s .clock) NoneYet) (named t) (other t)) exact
 
 -- sleeps that end
-pub sound-end : (a : LastAnswer) (ts : List ℕ) (s : State) → length (s .threads) ≡ threads
+sound-end : (a : LastAnswer) (ts : List ℕ) (s : State) → length (s .threads) ≡ threads
     → ((t : ℕ) → elem t ts ≡ false → recordOk (s .clock) (threadOf s t) ≡ true)
     → ((t : ℕ) → occurs t (arrivals s) ≡ bit (threadOf s t .waiting))
     → Sound (endSleeps a ts s)

@@ -54,7 +54,7 @@ leaves-by o p n after is h = subst (λ (x : Outcome). Leaves x n after) is h
 -- The first two rows, before those of the event.
 
 module _ (b m : List ℕ) (v : Verdict) (l : BuffersJudged b m v) (rest : List Row) where
-  pub buffers-refused : (z : Errno) → v ≡ Refuse z → first (firstRows (seen b m) ++ rest) ≡ Refuse z
+  buffers-refused : (z : Errno) → v ≡ Refuse z → first (firstRows (seen b m) ++ rest) ≡ Refuse z
   buffers-refused z h = refused-before (firstRows (seen b m)) rest z (sym (l .verdict) ∙ h)
 
   pub buffers-passed : v ≡ Pass → first (firstRows (seen b m) ++ rest) ≡ first rest
@@ -76,7 +76,7 @@ words-changed o m h = rw h
 
 module _ (e : Event) (b m : List ℕ) (r : ℤ) where
   module _ (x : Errno) (h : first (refusals e (seen b m)) ≡ Refuse x) (n : Numbered (Refused x) r) where
-    pub number-refused : Numbered (step e (seen b m) .answer) r
+    number-refused : Numbered (step e (seen b m) .answer) r
     number-refused = n ∙ ap (λ (o : Outcome). answerNumbers (o .answer)) (sym (step-refused e (seen b m) x h))
 
     pub changes-tables-refused : ChangesTables e b m r b
@@ -92,7 +92,7 @@ module _ (e : Event) (b m : List ℕ) (r : ℤ) where
     done : isRefused (effect e (seen b m) .answer) ≡ false
     done = granted e (seen b m) (pass-clear (refusals e (seen b m)) h)
 
-    pub tables-passed : (after : List ℕ) → after ≡ tablesBytes (effect e (seen b m) .world .state) → after ≡ tablesLeft (step e (seen b m)) b
+    tables-passed : (after : List ℕ) → after ≡ tablesBytes (effect e (seen b m) .world .state) → after ≡ tablesLeft (step e (seen b m)) b
     tables-passed after is = is ∙ sym (tables-changed (effect e (seen b m)) b done) ∙ ap (λ (o : Outcome). tablesLeft o b) (sym (step-passed e (seen b m) h))
 
     pub words-passed : (after : List ℕ) → after ≡ wordsBytes (effect e (seen b m) .world .words) → after ≡ wordsLeft (step e (seen b m)) m
