@@ -14,7 +14,6 @@ use Rattle.lists.proofs.Tests.{cases}
 use Rattle.tables.specs.declared.Thread.{Thread}
 use Rattle.tables.specs.declared.LastAnswer.{LastAnswer}
 use Rattle.rules.specs.declared.event.Command.{Command}
-use Rattle.rules.specs.declared.event.Command.the-variants.{Wait, Wake, Requeue, CmpRequeue, WakeOp, WaitBitset, WakeBitset, Unknown}
 use Rattle.rules.specs.declared.event.Call.{Call}
 use Rattle.rules.specs.declared.event.Event.{Event}
 use Rattle.rules.specs.declared.event.Event.the-variants.{Call as CallEvent, Store, Clock, Interrupt, Query}
@@ -25,6 +24,7 @@ use Rattle.rules.specs.WakeOp.{opField, opArg, opCode, operand, newWord}
 use Rattle.rules.specs.Calls.{maskOf, timeoutGiven, deadlineOf, wait, wake, requeue, wakeOp, callEffect}
 use Rattle.rules.specs.Events.{clockEffect, interruptEffect, effect, step}
 use Rattle.rules.specs.Claims.{Fate, stays, sleeps, wakes, moves, timesOut, isInterrupted}
+use Rattle.rules.proofs.Commands.{by-command}
 use Rattle.rules.proofs.Rows.{step-keeps}
 use Rattle.rules.proofs.Theorems.{fate}
 use Rattle.changes.specs.Change.{FitsThread, Fits}
@@ -92,26 +92,14 @@ set-fits ws i v f h j = cases (eqb j i)
 
 -- the clock and the words that an event leaves
 call-clock : (k : Command) (c : Call) (w : World) → callEffect k c w .world .state .clock ≡ w .state .clock
-unfolding callEffect wait wake requeue wakeOp fallAsleep endSleeps moveSleeps writeWord
-call-clock Wait c w = refl
-call-clock WaitBitset c w = refl
-call-clock Wake c w = refl
-call-clock WakeBitset c w = refl
-call-clock Requeue c w = refl
-call-clock CmpRequeue c w = refl
-call-clock WakeOp c w = refl
-call-clock Unknown c w = refl
+unfolding wait wake requeue wakeOp fallAsleep endSleeps moveSleeps writeWord
+call-clock k c w = by-command (λ k f. f c w .world .state .clock ≡ w .state .clock) (λ k i. refl) (λ k. refl) (λ k. refl) refl refl k
 
 call-words : (k : Command) (c : Call) (w : World) → WordsFit (w .words) → WordsFit (callEffect k c w .world .words)
-unfolding callEffect wait wake requeue wakeOp writeWord
-call-words Wait c w f = f
-call-words WaitBitset c w f = f
-call-words Wake c w f = f
-call-words WakeBitset c w f = f
-call-words Requeue c w f = f
-call-words CmpRequeue c w f = f
-call-words WakeOp c w f = set-fits (w .words) _ _ f (word-low (c .val3) (wordAt w (c .process) (c .uaddr2)) (f _))
-call-words Unknown c w f = f
+unfolding wait wake requeue wakeOp writeWord
+call-words k c w f =
+    by-command (λ k g. WordsFit (g c w .world .words)) (λ k i. f) (λ k. f) (λ k. f)
+    (set-fits (w .words) _ _ f (word-low (c .val3) (wordAt w (c .process) (c .uaddr2)) (f _))) f k
 
 effect-clock : (e : Event) (w : World) → EventFits e → w .state .clock < 256 ^ 8 → effect e w .world .state .clock < 256 ^ 8
 unfolding effect writeWord clockEffect interruptEffect endSleeps

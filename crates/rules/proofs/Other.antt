@@ -11,7 +11,7 @@ use Rattle.tables.specs.declared.State.{State}
 use Rattle.tables.specs.declared.LastAnswer.{LastAnswer}
 use Rattle.tables.specs.declared.LastAnswer.the-variants.{Woken, Interrupted}
 use Rattle.rules.specs.declared.event.Command.{Command}
-use Rattle.rules.specs.declared.event.Command.the-variants.{Wait, Wake, Requeue, CmpRequeue, WakeOp, WaitBitset, WakeBitset, Unknown}
+use Rattle.rules.specs.declared.event.Command.the-variants.{WakeOp}
 use Rattle.rules.specs.declared.event.Call.{Call}
 use Rattle.rules.specs.declared.event.Event.{Event}
 use Rattle.rules.specs.declared.event.Event.the-variants.{Call as CallEvent, Store, Clock, Interrupt, Query}
@@ -21,6 +21,7 @@ use Rattle.rules.specs.Calls.{caller, released, moved, releasedSecond, w
 use Rattle.rules.specs.Events.{refusals, interruptEffect, effect, step}
 use Rattle.rules.specs.History.{process, named}
 use Rattle.rules.specs.Claims.{Clear}
+use Rattle.rules.proofs.Commands.{by-command}
 use Rattle.rules.proofs.Rows.{step-keeps}
 use Rattle.rules.proofs.Passed.{Passed, clear-passed, thread-index, uaddr2-inside}
 use Rattle.rules.proofs.View.{ownThread, viewState, view, own-thread, other-thread, view-end, view-move, view-sleep-other, view-write-other, end-none, move-none}
@@ -67,15 +68,8 @@ module _ (p : ℕ) (k : Command) (c : Call) (w : World) (apart : p ≡ c .proces
       (all-append (ownThread (c .process)) (released k c (w .state)) (releasedSecond k c w) (released-own k c (w .state)) (second-own k c w)))
 
 call-other : (p : ℕ) (k : Command) (c : Call) (w : World) → (p ≡ c .process → ⊥) → Passed k c w → view p (callEffect k c w .world) ≡ view p w
-unfolding callEffect
-call-other p Wait c w apart g = wait-other p Wait c w apart g
-call-other p WaitBitset c w apart g = wait-other p WaitBitset c w apart g
-call-other p Wake c w apart g = wake-other p Wake c w apart g
-call-other p WakeBitset c w apart g = wake-other p WakeBitset c w apart g
-call-other p Requeue c w apart g = requeue-other p Requeue c w apart g
-call-other p CmpRequeue c w apart g = requeue-other p CmpRequeue c w apart g
-call-other p WakeOp c w apart g = wakeOp-other p WakeOp c w apart g refl
-call-other p Unknown c w apart g = refl
+call-other p = by-command (λ k f. (c : Call) (w : World) → (p ≡ c .process → ⊥) → Passed k c w → view p (f c w .world) ≡ view p w)
+    (λ k i. wait-other p k) (wake-other p) (requeue-other p) (λ c w apart g. wakeOp-other p WakeOp c w apart g refl) (λ c w apart g. refl)
 
 effect-other : (p q : ℕ) → (p ≡ q → ⊥) → (e : Event) → named e ≡ process q → (w : World) → Clear (refusals e w) → view p (effect e w .world) ≡ view p w
 unfolding effect refusals interruptEffect

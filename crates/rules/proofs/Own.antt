@@ -13,7 +13,7 @@ use Rattle.tables.specs.declared.State.{State}
 use Rattle.tables.specs.declared.Thread.{Thread}
 use Rattle.tables.specs.declared.LastAnswer.the-variants.{Woken, TimedOut, Interrupted}
 use Rattle.rules.specs.declared.event.Command.{Command}
-use Rattle.rules.specs.declared.event.Command.the-variants.{Wait, Wake, Requeue, CmpRequeue, WakeOp, WaitBitset, WakeBitset, Unknown}
+use Rattle.rules.specs.declared.event.Command.the-variants.{WakeOp}
 use Rattle.rules.specs.declared.event.Call.{Call}
 use Rattle.rules.specs.declared.event.Event.{Event}
 use Rattle.rules.specs.declared.event.Event.the-variants.{Call as CallEvent, Store, Clock, Interrupt, Query}
@@ -27,6 +27,7 @@ use Rattle.rules.specs.WakeOp.{newWord}
 use Rattle.rules.specs.Calls.{wrongMemory, noThread, caller, secondCap, matches, candidates, released, moved, releasedSecond, wait, wake, requeue, wakeOp, callEffect, callRefusals, callRows, full}
 use Rattle.rules.specs.Events.{refusals, clockEffect, interruptEffect, bitsBelow, waitingSet, panel, effect, step}
 use Rattle.rules.specs.Claims.{Clear}
+use Rattle.rules.proofs.Commands.{by-command}
 use Rattle.rules.proofs.Rows.{Same, _then_, same-first, clear-pass, verdicts, step-refused, step-passed}
 use Rattle.tables.proofs.Sound.{room}
 use Rattle.rules.proofs.Preserved.{Valid}
@@ -135,15 +136,8 @@ module _ (k : Command) (c : Call) (w : World) (g : Passed k c w) where
       )
 
 call-own : (k : Command) (c : Call) (w : World) → Passed k c w → viewOut (c .process) (callEffect k c w) ≡ callEffect k c (view (c .process) w)
-unfolding callEffect
-call-own Wait c w g = wait-own Wait c w g
-call-own WaitBitset c w g = wait-own WaitBitset c w g
-call-own Wake c w g = wake-own Wake c w g
-call-own WakeBitset c w g = wake-own WakeBitset c w g
-call-own Requeue c w g = requeue-own Requeue c w g
-call-own CmpRequeue c w g = requeue-own CmpRequeue c w g
-call-own WakeOp c w g = wakeOp-own WakeOp c w g refl
-call-own Unknown c w g = refl
+call-own = by-command (λ k f. (c : Call) (w : World) → Passed k c w → viewOut (c .process) (f c w) ≡ f c (view (c .process) w))
+    (λ k i. wait-own k) wake-own requeue-own (λ c w g. wakeOp-own WakeOp c w g refl) (λ c w g. refl)
 
 -- the tests: each is the same on the view, where those before it do not apply
 both-false : {a b : Bool} → a ≡ false → b ≡ false → a ≡ b

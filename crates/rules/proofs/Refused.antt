@@ -5,7 +5,6 @@ use mathlib.Core.Logic.{_⊎_, inl, inr}
 use Prim.Native.Nat.{ℕ}
 use Rattle.lists.proofs.Tests.{cases, clash, by-cases}
 use Rattle.rules.specs.declared.event.Command.{Command}
-use Rattle.rules.specs.declared.event.Command.the-variants.{Wait, Wake, Requeue, CmpRequeue, WakeOp, WaitBitset, WakeBitset, Unknown}
 use Rattle.rules.specs.declared.event.Call.{Call}
 use Rattle.rules.specs.declared.event.Event.{Event}
 use Rattle.rules.specs.declared.event.Event.the-variants.{Call as CallEvent, Store, Clock, Interrupt, Query}
@@ -18,21 +17,16 @@ use Rattle.rules.specs.Commands.{commandOf, isUnknown}
 use Rattle.rules.specs.Calls.{wait, wake, requeue, wakeOp, callEffect}
 use Rattle.rules.specs.Events.{refusals, clockEffect, interruptEffect, effect, step}
 use Rattle.rules.specs.Claims.{Clear}
+use Rattle.rules.proofs.Commands.{by-command}
 use Rattle.rules.proofs.Rows.{verdicts, step-refused, step-clear}
 use Rattle.rules.proofs.Passed.{clear-passed}
 
 -- a call that is not refused sleeps or is answered a count
 pub granted-answer : (k : Command) (c : Call) (w : World) → isUnknown k ≡ false
     → (callEffect k c w .answer ≡ Asleep) ⊎ ((n : ℕ) × (callEffect k c w .answer ≡ Count n))
-unfolding callEffect wait wake requeue wakeOp
-granted-answer Wait c w h = inl refl
-granted-answer WaitBitset c w h = inl refl
-granted-answer Wake c w h = inr (_, refl)
-granted-answer WakeBitset c w h = inr (_, refl)
-granted-answer Requeue c w h = inr (_, refl)
-granted-answer CmpRequeue c w h = inr (_, refl)
-granted-answer WakeOp c w h = inr (_, refl)
-granted-answer Unknown c w h = clash true refl h
+unfolding wait wake requeue wakeOp
+granted-answer k c w = by-command (λ k f. isUnknown k ≡ false → (f c w .answer ≡ Asleep) ⊎ ((n : ℕ) × (f c w .answer ≡ Count n)))
+    (λ k i h. inl refl) (λ k h. inr (_, refl)) (λ k h. inr (_, refl)) (λ h. inr (_, refl)) (λ h. clash true refl h) k
 
 call-granted : (k : Command) (c : Call) (w : World) → isUnknown k ≡ false → isRefused (callEffect k c w .answer) ≡ false
 call-granted k c w h = by-cases (granted-answer k c w h) (λ a. rw a) (λ a. rw (a .1))
