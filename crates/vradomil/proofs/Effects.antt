@@ -30,11 +30,7 @@ use Rattle.vradomil.proofs.Steps.{took-done, done-by}
 pub answered-leaves : (o : Outcome) (a : Answered) (n : ℕ) (after : List ℕ) → a ≡ answered o → Done (a .answer) (a .state) n after → Leaves o n after
 answered-leaves o a n after is h = done-by _ _ _ _ n after (ap (λ (q : Answered). q .answer) is) (ap (λ (q : Answered). q .state) is) h
 
--- the tables between two changes
-stands-ended : (a : LastAnswer) (f : ℕ → Bool) (cap : ℕ) (s : State) (n : ℕ) (b : List ℕ) → Sound s → Took (endFirst a f cap s) n b
-    → Stands (endFirst a f cap s .state) b
-stands-ended a f cap s n b g t = record { bytes = t .bytes; sound = sound-tables (endFirst a f cap s .state) (end-sound a f cap s g) }
-
+-- a count of sleeps that ended is small
 ended-few : (a : LastAnswer) (f : ℕ → Bool) (cap : ℕ) (s : State) (n : ℕ) (b : List ℕ) → Sound s → Took (endFirst a f cap s) n b → n ≤ threads
 ended-few a f cap s n b g t = omega (arith, t .number, end-few a f cap s g)
 
@@ -48,7 +44,11 @@ pub ended : {s : State} {b : List ℕ} → Stands s b → (a : LastAnswer) (f : 
 ended {s} {b} h a f cap n after takes =
     let g = tables-sound s (h .sound) in
     let took = takes s h in
-    record { took = took; left = stands-ended a f cap s n after g took; few = ended-few a f cap s n after g took }
+    record {
+      took = took;
+      left = record { bytes = took .bytes; sound = sound-tables (endFirst a f cap s .state) (end-sound a f cap s g) };
+      few = ended-few a f cap s n after g took;
+    }
 
 module _ (k : Command) (c : Call) (s : State) (g : Sound s) (f : ℕ → Bool)
     (is : filter f (arrivals s) ≡ candidates (matches k c) (c .process) (c .uaddr) s) where
