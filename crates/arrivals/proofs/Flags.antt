@@ -24,3 +24,10 @@ pub flags-next : (flags : List Bool) (f : ℕ → Bool) (i : ℕ) (v : Bool) →
 flags-next flags f i v h done is t l = cases (eqb t i)
     (λ e. rw (eqb-true t i e) (flag-here flags i v h ∙ is))
     (λ e. let apart = eqb-false t i e in flag-there flags i t v apart ∙ done t (lt-of-le-ne t i (omega arith) e))
+
+-- one flag stored, where the others say already what they are to say
+pub flags-set : (flags : List Bool) (f : ℕ → Bool) (i : ℕ) (v : Bool) → i < length flags → v ≡ f i
+    → (t : ℕ) → (eqb t i ≡ false → flagged flags t ≡ f t) → flagged (set flags i v) t ≡ f t
+flags-set flags f i v h is t old = cases (eqb t i)
+    (λ e. rw (eqb-true t i e) (flag-here flags i v h ∙ is))
+    (λ e. flag-there flags i t v (eqb-false t i e) ∙ old e)

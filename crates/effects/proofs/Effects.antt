@@ -3,13 +3,11 @@ use mathlib.Core.Path.{_≡_, refl, sym, ap, _∙_}
 use mathlib.Core.Bool.{Bool, true, false, not, cond, _&&_, _||_}
 use mathlib.Core.List.{List}
 use Prim.Native.Nat.{ℕ, _+_, _≤_}
-use native.Mathlib.Omega.{arith}
 use lib.ListN.{length, take, drop}
 use Rattle.lists.specs.Lists.{filter, elem, without}
 use Rattle.lists.proofs.Tests.{cases, clash}
 use Rattle.lists.proofs.Filter.{filter-comm}
-use Rattle.lists.proofs.Occurs.{filter-agree}
-use Rattle.lists.proofs.Loops.{without-taken, filter-leftOver, length-parts}
+use Rattle.lists.proofs.Loops.{without-taken, filter-leftOver}
 use Rattle.tables.specs.declared.State.{State}
 use Rattle.tables.specs.declared.Taken.{Taken}
 use Rattle.tables.specs.declared.LastAnswer.{LastAnswer}
@@ -27,32 +25,32 @@ use Rattle.rules.specs.Commands.{commandOf, isUnknown, uses}
 use Rattle.rules.specs.WakeOp.{compares}
 use Rattle.rules.specs.Calls.{matches, secondCap, candidates, released, moved, releasedSecond, wait, wake, requeue, wakeOp, callEffect}
 use Rattle.tables.proofs.Changes.{arrivals-end, end-append}
-use Rattle.tables.proofs.Sound.{Sound, waiting-below, listed-waiting, once, arrivals-fit}
-use Rattle.tables.proofs.Kept.{sound-end}
-use Rattle.rules.proofs.Chosen.{candidate, candidates-are}
+use Rattle.tables.proofs.Sound.{Sound, once}
+use Rattle.tables.proofs.Kept.{ending}
+use Rattle.tables.proofs.Stored.{taken-fit, flagged-listed}
+use Rattle.rules.proofs.Chosen.{candidates-are}
 
 -- sleeps that end keep the table rules
 pub end-sound : (a : LastAnswer) (f : ℕ → Bool) (cap : ℕ) (s : State) → Sound s → Sound (endFirst a f cap s .state)
 unfolding endFirst
-end-sound a f cap s g = sound-end a (take cap (filter f (arrivals s))) s (g .records) (λ t e. g .kept t) (g .exact)
+end-sound a f cap s g = ending a (take cap (filter f (arrivals s))) s g
 
 -- a count of listed threads is small
 pub end-few : (a : LastAnswer) (f : ℕ → Bool) (cap : ℕ) (s : State) → Sound s → endFirst a f cap s .n ≤ threads
 unfolding endFirst
-end-few a f cap s g = omega (arith, length-parts f (arrivals s) cap, arrivals-fit s g)
+end-few a f cap s g = taken-fit s g f cap
 
 pub move-few : (a : ℕ) (f : ℕ → Bool) (cap : ℕ) (s : State) → Sound s → moveFirst a f cap s .n ≤ threads
 unfolding moveFirst
-move-few a f cap s g = omega (arith, length-parts f (arrivals s) cap, arrivals-fit s g)
+move-few a f cap s g = taken-fit s g f cap
 
 -- The flags of the tables' search say who the candidates are, where it was made with what the command uses.
 pub chosen : (c : Call) (a : ℕ) (s : State) → Sound s → (u : Uses) → u ≡ uses (commandOf (c .op)) → (flags : List Bool)
     → Flags flags (λ t. (not (u .mask) || sharesBit (c .val3) (threadOf s t)) && sleepsAt (c .process) a s t)
     → filter (flagged flags) (arrivals s) ≡ candidates (matches (commandOf (c .op)) c) (c .process) a s
 chosen c a s g u is flags h =
-    filter-agree (flagged flags) (candidate (matches (commandOf (c .op)) c) (c .process) a s) (arrivals s)
-    (λ t e. h t (waiting-below s g t (sym (listed-waiting s g t) ∙ e))
-    ∙ ap (λ (v : Uses). (not (v .mask) || sharesBit (c .val3) (threadOf s t)) && sleepsAt (c .process) a s t) is)
+    flagged-listed s g flags _ h
+    ∙ ap (λ (v : Uses). filter (λ t. (not (v .mask) || sharesBit (c .val3) (threadOf s t)) && sleepsAt (c .process) a s t) (arrivals s)) is
     ∙ sym (candidates-are (matches (commandOf (c .op)) c) (c .process) a s)
 
 module _ (k : Command) (c : Call) (s : State) (g : Sound s) (f : ℕ → Bool)
@@ -72,6 +70,10 @@ module _ (k : Command) (c : Call) (s : State) (g : Sound s) (f : ℕ → Bool)
       ∙ filter-leftOver f (arrivals s) (c .val)
       ∙ ap (drop (c .val)) is
 
+  first-is : first ≡ record { state = endSleeps Woken (released k c s) s; n = length (released k c s) }
+  unfolding endFirst released
+  first-is = cc (is)
+
   abbrev next : Taken
   next = moveFirst (c .uaddr2) f (secondCap c) (first .state)
 
@@ -79,9 +81,6 @@ module _ (k : Command) (c : Call) (s : State) (g : Sound s) (f : ℕ → Bool)
       → record { answer = Count (first .n + cond (uses k .compare) (next .n) 0); state = next .state } ≡ answered (requeue k c (world s words))
   unfolding requeue released moved moveFirst
   requeues words = cc (left, first-is)
-    where
-      first-is : first ≡ record { state = endSleeps Woken (released k c s) s; n = length (released k c s) }
-      first-is = unfold endFirst released in cc (is)
 
 -- WAKE_OP: who is released at the second word, once those of the first have left
 module _ (k : Command) (c : Call) (w : World) (g : Sound (w .state)) (f h : ℕ → Bool)
@@ -97,7 +96,7 @@ module _ (k : Command) (c : Call) (w : World) (g : Sound (w .state)) (f h : ℕ 
   two = endFirst Woken h (cond holds (secondCap c) 0) (one .state)
 
   one-is : one ≡ record { state = endSleeps Woken (released k c (w .state)) (w .state); n = length (released k c (w .state)) }
-  one-is = unfold endFirst released in cc (is)
+  one-is = first-is k c (w .state) g f is
 
   still : filter h (arrivals (endSleeps Woken (released k c (w .state)) (w .state)))
       ≡ without (released k c (w .state)) (candidates (matches k c) (c .process) (c .uaddr2) (w .state))
@@ -124,7 +123,7 @@ module _ (k : Command) (c : Call) (w : World) (g : Sound (w .state)) (f h : ℕ 
       λ i. record { answer = Count (n i + m i); state = s i }
 
 -- which command it is, by what it uses
-pub by-uses : (k : Command) (c : Call) (w : World) → isUnknown k ≡ false
+by-uses : (k : Command) (c : Call) (w : World) → isUnknown k ≡ false
     → callEffect k c w ≡ cond (uses k .deadline) (wait k c w) (cond (uses k .moves) (requeue k c w) (cond (uses k .second) (wakeOp k c w) (wake k c w)))
 unfolding callEffect
 by-uses Wait c w h = refl
@@ -135,3 +134,20 @@ by-uses Requeue c w h = refl
 by-uses CmpRequeue c w h = refl
 by-uses WakeOp c w h = refl
 by-uses Unknown c w h = clash true refl h
+
+-- which of the four a call is, by what its command uses
+module _ (k : Command) (c : Call) (w : World) (known : isUnknown k ≡ false) (u : Uses) (is : u ≡ uses k) where
+  by : callEffect k c w ≡ cond (u .deadline) (wait k c w) (cond (u .moves) (requeue k c w) (cond (u .second) (wakeOp k c w) (wake k c w)))
+  by = by-uses k c w known ∙ sym (ap (λ (v : Uses). cond (v .deadline) (wait k c w) (cond (v .moves) (requeue k c w) (cond (v .second) (wakeOp k c w) (wake k c w)))) is)
+
+  pub is-wait : u .deadline ≡ true → callEffect k c w ≡ wait k c w
+  is-wait d = by ∙ rw d
+
+  pub is-requeue : u .deadline ≡ false → u .moves ≡ true → callEffect k c w ≡ requeue k c w
+  is-requeue d m = by ∙ rw (d, m)
+
+  pub is-wakeOp : u .deadline ≡ false → u .moves ≡ false → u .second ≡ true → callEffect k c w ≡ wakeOp k c w
+  is-wakeOp d m t = by ∙ rw (d, m, t)
+
+  pub is-wake : u .deadline ≡ false → u .moves ≡ false → u .second ≡ false → callEffect k c w ≡ wake k c w
+  is-wake d m t = by ∙ rw (d, m, t)

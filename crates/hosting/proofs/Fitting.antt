@@ -2,31 +2,30 @@
 use mathlib.Core.Path.{_≡_, refl, sym, subst}
 use mathlib.Core.Bool.{Bool, true, false, cond}
 use mathlib.Core.List.{List}
-use Prim.Native.Nat.{ℕ, _-_, _%_, _^_, _≤_, _<_}
+use Prim.Native.Nat.{ℕ, _-_, _%_, _^_, _<_}
 use native.Mathlib.Omega.{arith}
 use lib.ListN.{length, set}
 use lib.Seq.{getD-set-same, getD-set-other, set-out}
 use lib.Bits.{and-le-l, or-lt, xor-lt}
 use lib.Dec.{eqb, leb, ltb}
-use lib.Pow.{pow-mono}
+use lib.Pow.{pow-lt}
 use borrow.Author.Tests.{eqb-true, eqb-false, ltb-true, ltb-false}
 use Rattle.lists.proofs.Tests.{cases}
 use Rattle.tables.specs.declared.Thread.{Thread}
 use Rattle.tables.specs.declared.LastAnswer.{LastAnswer}
 use Rattle.rules.specs.declared.event.Command.{Command}
-use Rattle.rules.specs.declared.event.Command.the-variants.{Wait, Wake, Requeue, CmpRequeue, WakeOp, WaitBitset, WakeBitset, Unknown}
 use Rattle.rules.specs.declared.event.Call.{Call}
 use Rattle.rules.specs.declared.event.Event.{Event}
 use Rattle.rules.specs.declared.event.Event.the-variants.{Call as CallEvent, Store, Clock, Interrupt, Query}
 use Rattle.tables.specs.Sizes.{threads, matchAny, wordBytes}
 use Rattle.tables.specs.Tables.{World, threadNumber, running, threadOf, asleepAt, endSleeps, moveSleeps, fallAsleep, writeWord, wordAt}
-use Rattle.rules.specs.Answers.{Outcome}
 use Rattle.rules.specs.Commands.{commandOf, uses}
 use Rattle.rules.specs.WakeOp.{opField, opArg, opCode, operand, newWord}
 use Rattle.rules.specs.Calls.{maskOf, timeoutGiven, deadlineOf, wait, wake, requeue, wakeOp, callEffect}
-use Rattle.rules.specs.Events.{refusals, clockEffect, interruptEffect, effect, step}
+use Rattle.rules.specs.Events.{clockEffect, interruptEffect, effect, step}
 use Rattle.rules.specs.Claims.{Fate, stays, sleeps, wakes, moves, timesOut, isInterrupted}
-use Rattle.rules.proofs.Rows.{verdicts, clear-pass, step-refused, step-passed}
+use Rattle.rules.proofs.Commands.{by-command}
+use Rattle.rules.proofs.Rows.{step-keeps}
 use Rattle.rules.proofs.Theorems.{fate}
 use Rattle.changes.specs.Change.{FitsThread, Fits}
 use Rattle.hosting.specs.Hosts.{CallFits, EventFits, WordsFit}
@@ -36,7 +35,7 @@ pub record FitsWorld (w : World) : Type 0 where
   pub words : WordsFit (w .words)
 
 -- a record
-running-fits : (a : LastAnswer) → FitsThread (running a)
+pub running-fits : (a : LastAnswer) → FitsThread (running a)
 running-fits a = record { uaddr = omega arith; bitset = omega arith; deadline = omega arith }
 
 choose : (b : Bool) (x y n : ℕ) → x < n → y < n → cond b x y < n
@@ -73,10 +72,7 @@ thread-fits e w t f low g = by (fate e w t)
 -- a word
 operand-low : (v : ℕ) → operand v < 2 ^ 32
 unfolding operand
-operand-low v = choose (leb 8 (opField v)) (2 ^ (opArg v % 32)) (opArg v) (2 ^ 32) (power (opArg v % 32) (omega arith)) (omega arith)
-  where
-    power : (k : ℕ) → k ≤ 31 → 2 ^ k < 2 ^ 32
-    power k h = let p : 2 ^ k ≤ 2 ^ 31 = pow-mono h in omega arith
+operand-low v = choose (leb 8 (opField v)) (2 ^ (opArg v % 32)) (opArg v) (2 ^ 32) (pow-lt (let h : opArg v % 32 < 32 = omega arith in h)) (omega arith)
 
 word-low : (v old : ℕ) → old < 2 ^ 32 → newWord v old < 2 ^ 32
 unfolding newWord
@@ -96,26 +92,14 @@ set-fits ws i v f h j = cases (eqb j i)
 
 -- the clock and the words that an event leaves
 call-clock : (k : Command) (c : Call) (w : World) → callEffect k c w .world .state .clock ≡ w .state .clock
-unfolding callEffect wait wake requeue wakeOp fallAsleep endSleeps moveSleeps writeWord
-call-clock Wait c w = refl
-call-clock WaitBitset c w = refl
-call-clock Wake c w = refl
-call-clock WakeBitset c w = refl
-call-clock Requeue c w = refl
-call-clock CmpRequeue c w = refl
-call-clock WakeOp c w = refl
-call-clock Unknown c w = refl
+unfolding wait wake requeue wakeOp fallAsleep endSleeps moveSleeps writeWord
+call-clock k c w = by-command (λ k f. f c w .world .state .clock ≡ w .state .clock) (λ k i. refl) (λ k. refl) (λ k. refl) refl refl k
 
 call-words : (k : Command) (c : Call) (w : World) → WordsFit (w .words) → WordsFit (callEffect k c w .world .words)
-unfolding callEffect wait wake requeue wakeOp writeWord
-call-words Wait c w f = f
-call-words WaitBitset c w f = f
-call-words Wake c w f = f
-call-words WakeBitset c w f = f
-call-words Requeue c w f = f
-call-words CmpRequeue c w f = f
-call-words WakeOp c w f = set-fits (w .words) _ _ f (word-low (c .val3) (wordAt w (c .process) (c .uaddr2)) (f _))
-call-words Unknown c w f = f
+unfolding wait wake requeue wakeOp writeWord
+call-words k c w f =
+    by-command (λ k g. WordsFit (g c w .world .words)) (λ k i. f) (λ k. f) (λ k. f)
+    (set-fits (w .words) _ _ f (word-low (c .val3) (wordAt w (c .process) (c .uaddr2)) (f _))) f k
 
 effect-clock : (e : Event) (w : World) → EventFits e → w .state .clock < 256 ^ 8 → effect e w .world .state .clock < 256 ^ 8
 unfolding effect writeWord clockEffect interruptEffect endSleeps
@@ -137,12 +121,8 @@ pub step-fits : (e : Event) (w : World) → EventFits e → FitsWorld w → Fits
 step-fits e w f g =
     record {
       state = record {
-        clock = verdicts e w
-            (λ x h. subst (λ (o : Outcome). o .world .state .clock < 256 ^ 8) (sym (step-refused e w x h)) (g .state .clock))
-            (λ h. subst (λ (o : Outcome). o .world .state .clock < 256 ^ 8) (sym (step-passed e w (clear-pass (refusals e w) h))) (effect-clock e w f (g .state .clock)));
+        clock = step-keeps (λ v. v .state .clock < 256 ^ 8) e w (g .state .clock) (λ h. effect-clock e w f (g .state .clock));
         records = λ t low. thread-fits e w t f low (g .state);
       };
-      words = verdicts e w
-          (λ x h. subst (λ (o : Outcome). WordsFit (o .world .words)) (sym (step-refused e w x h)) (g .words))
-          (λ h. subst (λ (o : Outcome). WordsFit (o .world .words)) (sym (step-passed e w (clear-pass (refusals e w) h))) (effect-words e w f (g .words)));
+      words = step-keeps (λ v. WordsFit (v .words)) e w (g .words) (λ h. effect-words e w f (g .words));
     }

@@ -8,21 +8,21 @@ use lib.IntN.{ℤ, pos}
 use lib.ListN.{length, getD}
 use Rattle.lists.proofs.Tests.{cases, clash}
 use Rattle.rules.specs.declared.event.Event.{Event}
-use Rattle.rules.specs.declared.event.Event.the-variants.{Call as CallEvent, Store, Clock, Interrupt, Query}
+use Rattle.rules.specs.declared.event.Event.the-variants.{Store, Clock, Interrupt, Query}
 use Rattle.rules.specs.declared.answer.Answer.{Answer}
 use Rattle.rules.specs.declared.answer.Answer.the-variants.{Asleep, Count, Refused, Waiting}
 use Rattle.tables.specs.Tables.{World, writeWord}
 use Rattle.tables.proofs.Sound.{sound-tables}
-use Rattle.rules.specs.Answers.{Outcome, answerNumbers}
+use Rattle.rules.specs.Answers.{isRefused, answerNumbers}
 use Rattle.rules.specs.Events.{refusals, clockEffect, panel, effect, step}
 use Rattle.rules.specs.History.{belongs, final, answers, entriesOf}
-use Rattle.rules.proofs.Rows.{verdicts, clear-pass, step-refused, step-passed}
+use Rattle.rules.proofs.Rows.{step-keeps}
 use Rattle.rules.proofs.Preserved.{Valid, step-valid}
 use Rattle.rules.proofs.Theorems.{refusal-leaves-all}
 use Rattle.kernel.proofs.Events.{interrupt-words}
 use Rattle.layout.specs.Layout.{tablesBytes, wordsBytes, wordsAt}
 use Rattle.changes.proofs.Faithful.{tables-back}
-use Rattle.vradomil.specs.Host.{seen, isRefused, tablesLeft, wordsLeft, packed}
+use Rattle.vradomil.specs.Host.{seen, tablesLeft, wordsLeft, packed}
 use Rattle.vradomil.proofs.Theorems.{words-stand}
 use Rattle.hosting.specs.Hosts.{Hosted, called, stored, clocked, interrupted, queried, EventFits, HostRuns, over, next, hostNumber}
 use Rattle.hosting.proofs.Fitting.{FitsWorld, step-fits}
@@ -47,34 +47,28 @@ module _ (b m : List ℕ) (w : World) (s : Stand b m w) where
   refused-world e (Count n) is h = clash false h refl
   refused-world e (Waiting v) is h = clash false h refl
 
-  left-tables : (e : Event) → tablesLeft (step e w) b ≡ tablesBytes (step e w .world .state)
-  left-tables e = cases (isRefused (step e w .answer))
+  left-tables : (e : Event) → tablesLeft (step e (seen b m)) b ≡ tablesBytes (step e w .world .state)
+  left-tables e = ap (λ v. tablesLeft (step e v) b) seen-is ∙ cases (isRefused (step e w .answer))
       (λ r. rw r (s .tables ∙ ap (λ (v : World). tablesBytes (v .state)) (sym (refused-world e (step e w .answer) refl r))))
       (λ r. rw r)
 
-  left-words : (e : Event) → wordsLeft (step e w) m ≡ wordsBytes (step e w .world .words)
-  left-words e = cases (isRefused (step e w .answer))
+  left-words : (e : Event) → wordsLeft (step e (seen b m)) m ≡ wordsBytes (step e w .world .words)
+  left-words e = ap (λ v. wordsLeft (step e v) m) seen-is ∙ cases (isRefused (step e w .answer))
       (λ r. rw r (s .words ∙ ap (λ (v : World). wordsBytes (v .words)) (sym (refused-world e (step e w .answer) refl r))))
       (λ r. rw r)
 
 -- what an event does not touch
 store-state : (p a v : ℕ) (w : World) → step (Store p a v) w .world .state ≡ w .state
 unfolding effect writeWord
-store-state p a v w = verdicts (Store p a v) w
-    (λ x h. ap (λ (o : Outcome). o .world .state) (step-refused (Store p a v) w x h))
-    (λ h. ap (λ (o : Outcome). o .world .state) (step-passed (Store p a v) w (clear-pass (refusals (Store p a v) w) h)))
+store-state p a v w = step-keeps (λ u. u .state ≡ w .state) (Store p a v) w refl (λ h. refl)
 
 clock-words : (now : ℕ) (w : World) → step (Clock now) w .world .words ≡ w .words
 unfolding effect clockEffect
-clock-words now w = verdicts (Clock now) w
-    (λ x h. ap (λ (o : Outcome). o .world .words) (step-refused (Clock now) w x h))
-    (λ h. ap (λ (o : Outcome). o .world .words) (step-passed (Clock now) w (clear-pass (refusals (Clock now) w) h)))
+clock-words now w = step-keeps (λ u. u .words ≡ w .words) (Clock now) w refl (λ h. refl)
 
 ended-words : (p i : ℕ) (w : World) → step (Interrupt p i) w .world .words ≡ w .words
 unfolding effect
-ended-words p i w = verdicts (Interrupt p i) w
-    (λ x h. ap (λ (o : Outcome). o .world .words) (step-refused (Interrupt p i) w x h))
-    (λ h. ap (λ (o : Outcome). o .world .words) (step-passed (Interrupt p i) w (clear-pass (refusals (Interrupt p i) w) h)) ∙ interrupt-words _ w)
+ended-words p i w = step-keeps (λ u. u .words ≡ w .words) (Interrupt p i) w refl (λ h. interrupt-words _ w)
 
 asked : (p : ℕ) (w : World) → step (Query p) w .world ≡ w
 unfolding step refusals effect
@@ -95,55 +89,23 @@ record Stepped (e : Event) (w : World) (r : ℤ) (b m : List ℕ) : Type 0 where
   stand : Stand b m (step e w .world)
   number : r ≡ hostNumber (step e w .answer)
 
+-- an event whose one number and bytes are those of its step
+by-left : (e : Event) (b m b1 m1 : List ℕ) (w : World) (r : ℤ) → Stand b m w → EventFits e → b1 ≡ tablesBytes (step e w .world .state)
+    → m1 ≡ wordsBytes (step e w .world .words) → r ∷ [] ≡ answerNumbers (step e (seen b m) .answer) → Stepped e w r b1 m1
+by-left e b m b1 m1 w r s f tables words n =
+    record {
+      stand = record { tables = tables; words = words; valid = step-valid e w (s .valid); fits = step-fits e w f (s .fits) };
+      number = one-number (step e w .answer) r (n ∙ ap (λ v. answerNumbers (step e v .answer)) (seen-is b m w s));
+    }
+
 stepped : (e : Event) (b m b1 m1 : List ℕ) (w : World) (r : ℤ) → Stand b m w → EventFits e → Hosted e b m r b1 m1 → Stepped e w r b1 m1
-stepped (CallEvent c) b m b1 m1 w r s f (called h) =
-    let e = CallEvent c in
-    let is = ap (step e) (seen-is b m w s) in
-    record {
-      stand = record {
-        tables = h .tables ∙ ap (λ (o : Outcome). tablesLeft o b) is ∙ left-tables b m w s e;
-        words = h .words ∙ ap (λ (o : Outcome). wordsLeft o m) is ∙ left-words b m w s e;
-        valid = step-valid e w (s .valid);
-        fits = step-fits e w f (s .fits);
-      };
-      number = one-number (step e w .answer) r (h .number ∙ ap (λ (o : Outcome). answerNumbers (o .answer)) is);
-    }
-stepped (Store p a v) b m b1 m1 w r s f (stored h) =
-    let e = Store p a v in
-    let is = ap (step e) (seen-is b m w s) in
-    record {
-      stand = record {
-        tables = s .tables ∙ ap tablesBytes (sym (store-state p a v w));
-        words = h .bytes ∙ ap (λ (o : Outcome). wordsLeft o m) is ∙ left-words b m w s e;
-        valid = step-valid e w (s .valid);
-        fits = step-fits e w f (s .fits);
-      };
-      number = one-number (step e w .answer) r (h .number ∙ ap (λ (o : Outcome). answerNumbers (o .answer)) is);
-    }
-stepped (Clock now) b m b1 m1 w r s f (clocked h) =
-    let e = Clock now in
-    let is = ap (step e) (seen-is b m w s) in
-    record {
-      stand = record {
-        tables = h .bytes ∙ ap (λ (o : Outcome). tablesLeft o b) is ∙ left-tables b m w s e;
-        words = s .words ∙ ap wordsBytes (sym (clock-words now w));
-        valid = step-valid e w (s .valid);
-        fits = step-fits e w f (s .fits);
-      };
-      number = one-number (step e w .answer) r (h .number ∙ ap (λ (o : Outcome). answerNumbers (o .answer)) is);
-    }
-stepped (Interrupt p i) b m b1 m1 w r s f (interrupted h) =
-    let e = Interrupt p i in
-    let is = ap (step e) (seen-is b m w s) in
-    record {
-      stand = record {
-        tables = h .bytes ∙ ap (λ (o : Outcome). tablesLeft o b) is ∙ left-tables b m w s e;
-        words = s .words ∙ ap wordsBytes (sym (ended-words p i w));
-        valid = step-valid e w (s .valid);
-        fits = step-fits e w f (s .fits);
-      };
-      number = one-number (step e w .answer) r (h .number ∙ ap (λ (o : Outcome). answerNumbers (o .answer)) is);
-    }
+stepped e b m b1 m1 w r s f (called h) = by-left e b m b1 m1 w r s f (h .tables ∙ left-tables b m w s e) (h .words ∙ left-words b m w s e) (h .number)
+stepped e b m b1 m1 w r s f (stored {p} {a} {v} h) =
+    by-left e b m b1 m1 w r s f (s .tables ∙ ap tablesBytes (sym (store-state p a v w))) (h .bytes ∙ left-words b m w s e) (h .number)
+stepped e b m b1 m1 w r s f (clocked {now} h) =
+    by-left e b m b1 m1 w r s f (h .bytes ∙ left-tables b m w s e) (s .words ∙ ap wordsBytes (sym (clock-words now w))) (h .number)
+stepped e b m b1 m1 w r s f (interrupted {p} {i} h) =
+    by-left e b m b1 m1 w r s f (h .bytes ∙ left-tables b m w s e) (s .words ∙ ap wordsBytes (sym (ended-words p i w))) (h .number)
 stepped (Query p) b m b1 m1 w r s f (queried h) =
     record {
       stand = subst (Stand b m) (sym (asked p w)) s;

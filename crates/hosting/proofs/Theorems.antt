@@ -21,6 +21,7 @@ use Rattle.changes.specs.Change.{Fits}
 use Rattle.vradomil.specs.Host.{seen}
 use Rattle.vradomil.proofs.Memory.{words-length, word-fits}
 use Rattle.hosting.specs.Hosts.{HostRuns, hostNumber}
+use Rattle.hosting.proofs.Fitting.{running-fits}
 use Rattle.hosting.proofs.Hosting.{Stand, seen-is, ran, entries-map}
 
 fresh-fits : Fits fresh
@@ -29,7 +30,7 @@ fresh-fits =
     record {
       clock = omega arith;
       records = λ i low. let e : threadOf fresh i ≡ running NoneYet = getD-replicated threads i (running NoneYet) in
-          rw e (record { uaddr = omega arith; bitset = omega arith; deadline = omega arith });
+          rw e (running-fits NoneYet);
     }
 
 -- fresh tables, as vradomil_fresh lays them down, and any buffer of words

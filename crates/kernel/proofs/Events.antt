@@ -10,11 +10,11 @@ use lib.Pow.{pow-mono}
 use lib.ListN.{length, take, set, replicate}
 use lib.Seq.{take-all}
 use lib.Dec.{eqb, ltb, leb}
-use borrow.Author.Tests.{eqb-true, eqb-false, ltb-true, ltb-false, lt-leb, le-leb}
+use borrow.Author.Tests.{ltb-true, ltb-false, lt-leb, le-leb}
 use Rattle.lists.specs.Lists.{filter, bit}
 use Rattle.lists.proofs.Tests.{cases, clash, and-intro, and-left, and-right, bit-choice}
 use Rattle.lists.proofs.Filter.{length-filter, getD-replicated}
-use Rattle.lists.proofs.Occurs.{filter-agree, filter-same}
+use Rattle.lists.proofs.Occurs.{eqb-refl, filter-same}
 use Rattle.tables.specs.declared.State.{State}
 use Rattle.tables.specs.declared.Taken.{Taken}
 use Rattle.tables.specs.declared.LastAnswer.the-variants.{TimedOut, Interrupted}
@@ -24,13 +24,9 @@ use Rattle.tables.specs.Tables.{world, World, threadOf, tablesOk, arrivals, exp
 use Rattle.tables.specs.Steps.{Flags, flagged, endFirst}
 use Rattle.rules.specs.Answers.{answered}
 use Rattle.rules.specs.Events.{bitsBelow, waitingSet, clockEffect, interruptEffect}
-use Rattle.tables.proofs.Sound.{Sound, waiting-below, listed-waiting, arrivals-fit}
-use Rattle.tables.proofs.Flags.{flag-here, flag-there}
-use Rattle.tables.proofs.Stored.{end-nobody}
-
--- flags that say which listed threads pass
-flagged-listed : (s : State) → Sound s → (flags : List Bool) (f : ℕ → Bool) → Flags flags f → filter (flagged flags) (arrivals s) ≡ filter f (arrivals s)
-flagged-listed s g flags f h = filter-agree (flagged flags) f (arrivals s) (λ t e. h t (waiting-below s g t (sym (listed-waiting s g t) ∙ e)))
+use Rattle.tables.proofs.Sound.{Sound, arrivals-fit}
+use Rattle.tables.proofs.Flags.{flags-set}
+use Rattle.tables.proofs.Stored.{end-nobody, flagged-listed}
 
 -- the clock: everybody whose deadline has come, since the cap is the whole list
 pub clock-ends : (now : ℕ) (s : State) (ws : List ℕ) → Sound s → (flags : List Bool) → Flags flags (λ t. expired now (threadOf s t))
@@ -49,9 +45,7 @@ clock-ends now s ws g flags h taken is =
 
 -- an interrupt: the thread, if it is listed
 one-flag : (t : ℕ) → t < threads → Flags (set (replicate threads false) t true) (λ u. eqb u t)
-one-flag t low u h = cases (eqb u t)
-    (λ e. rw (e, eqb-true u t e) (flag-here (replicate threads false) t true low))
-    (λ e. flag-there (replicate threads false) t u true (eqb-false u t e) ∙ rw e (getD-replicated threads u false))
+one-flag t low u h = flags-set (replicate threads false) (λ u. eqb u t) t true low (sym (eqb-refl t)) u (λ e. getD-replicated threads u false ∙ sym e)
 
 pub interrupt-ends : (t : ℕ) (s : State) (ws : List ℕ) → Sound s → t < threads → (taken : Taken)
     → taken ≡ endFirst Interrupted (flagged (set (replicate threads false) t true)) 1 s

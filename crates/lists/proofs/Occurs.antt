@@ -174,3 +174,7 @@ filter-same t (x ∷ xs) =
     cases (eqb x t)
     (λ e. rw (e, eqb-sym t x, e, eqb-true x t e) (rw (one-add (occurs t xs)) (ap (t ∷_) ih)))
     (λ e. rw (e, eqb-sym t x, e, zero-add (occurs t xs)) ih)
+
+-- a list of one number
+pub elem-one : (u t : ℕ) → elem u (t ∷ []) ≡ true → u ≡ t
+elem-one u t e = eqb-true u t (cases (eqb u t) (λ k. k) (λ k. clash (elem u (t ∷ [])) e (rw k)))

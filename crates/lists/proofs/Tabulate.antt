@@ -1,7 +1,7 @@
 -- Laws of `tabulate`.
 use mathlib.Core.Path.{_≡_, refl, ap, _∙_}
 use mathlib.Core.Bool.{Bool, _&&_}
-use mathlib.Core.List.{[], _∷_, _++_}
+use mathlib.Core.List.{List, [], _∷_, _++_}
 use Prim.Native.Nat.{ℕ, zero, suc, _<_}
 use native.Mathlib.Omega.{arith}
 use lib.ListN.{length, getD}
@@ -27,3 +27,11 @@ module _ {A : Type 0} where
   unfolding everyBelow
   all-tabulate q zero f = refl
   all-tabulate q (suc n) f = ap (all q) (tabulate-next n f) ∙ all-snoc q (tabulate n f) (f n) ∙ ap (λ b. b && q (f n)) (all-tabulate q n f)
+
+  tabulate-getD : (l : List A) (d : A) → l ≡ tabulate (length l) (λ i. getD l i d)
+  tabulate-getD [] d = refl
+  tabulate-getD (x ∷ xs) d = ap (x ∷_) (tabulate-getD xs d)
+
+  -- a test of every element is one of every place
+  pub all-below : (f : A → Bool) (l : List A) (d : A) → all f l ≡ everyBelow (length l) (λ i. f (getD l i d))
+  all-below f l d = ap (all f) (tabulate-getD l d) ∙ all-tabulate f (length l) (λ i. getD l i d)

@@ -15,7 +15,7 @@ use Rattle.rules.specs.Commands.{commandOf}
 use Rattle.rules.specs.Calls.{wrongMemory, brokenTables, callRows, callRefusals, differs}
 use Rattle.rules.specs.Events.{refusals}
 use Rattle.commands.specs.Places.{ThreadAt, WordAt}
-use Rattle.rules.proofs.Rows.{Same, same-first}
+use Rattle.rules.proofs.Rows.{Same, _then_, same-first}
 use Rattle.rules.proofs.Passed.{thread-process, thread-index, uaddr-inside}
 
 -- The verdict on the record t and the word i that the code reads: where the thread or the address does not exist, an earlier row refuses.
@@ -29,49 +29,20 @@ module _ (c : Call) (s : State) (ws : List ℕ) (t i : ℕ) (thread : ThreadAt (
   same-rows : Same (rowsRead c s ws t i) (callRefusals c (world s ws))
   unfolding callRefusals callRows
   same-rows =
-      let k = commandOf (c .op) in (
-        refl,
-        refl,
-        λ h1. (
-          refl,
-          refl,
-          λ h2. (
-            refl,
-            refl,
-            λ h3.
-                let p = thread-process (c .process) (c .index) h3 in (
-                  refl,
-                  ap (λ u. threadOf s u .waiting) (thread .exact p (thread-index (c .process) (c .index) h3)),
-                  λ h4. (
-                    refl,
-                    refl,
-                    λ h5. (
-                      refl,
-                      refl,
-                      λ h6. (
-                        refl,
-                        refl,
-                        λ h7. (
-                          refl,
-                          refl,
-                          λ h8. (
-                            refl,
-                            ap (λ j. differs k c (getD ws j 0)) (word .exact p (leb-false bytesPerProcess (c .uaddr) (uaddr-inside k c h7))),
-                            λ h9. (
-                              refl,
-                              refl,
-                              λ h10.
-                                  (refl, refl, λ h11. tt),
-                            ),
-                          ),
-                        ),
-                      ),
-                    ),
-                  ),
-                ),
-          ),
-        ),
-      )
+      let k = commandOf (c .op) in
+      refl then λ h1.
+      refl then λ h2.
+      refl then λ h3.
+      let p = thread-process (c .process) (c .index) h3 in
+      ap (λ u. threadOf s u .waiting) (thread .exact p (thread-index (c .process) (c .index) h3)) then λ h4.
+      refl then λ h5.
+      refl then λ h6.
+      refl then λ h7.
+      refl then λ h8.
+      ap (λ j. differs k c (getD ws j 0)) (word .exact p (leb-false bytesPerProcess (c .uaddr) (uaddr-inside k c h7))) then λ h9.
+      refl then λ h10.
+      refl then λ h11.
+      tt
 
   pub verdict-is : first (rowsRead c s ws t i) ≡ first (refusals (CallEvent c) (world s ws))
   unfolding refusals

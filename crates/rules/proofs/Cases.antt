@@ -1,7 +1,6 @@
 -- The twelve cases, computed.
 use mathlib.Core.Path.{_≡_, refl}
 use mathlib.Core.List.{map}
-use Prim.Native.Nat.{_-_}
 use Rattle.lists.specs.Lists.{everyBelow}
 use Rattle.tables.specs.Tables.{expiredSleepers, queue, tablesOk, recordOk, fresh, change, endSleeps, moveSleeps, fallAsleep, writeWord}
 use Rattle.rules.specs.Commands.{commandOf, notImplemented}

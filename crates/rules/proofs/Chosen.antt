@@ -27,10 +27,10 @@ pub candidates-are : (q : Thread → Bool) (p a : ℕ) (s : State) → candidate
 unfolding candidates queue
 candidates-are q p a s = filter-filter (λ t. q (threadOf s t)) (sleepsAt p a s) (arrivals s)
 
-pub candidates-pass : (q : Thread → Bool) (p a : ℕ) (s : State) → all (candidate q p a s) (candidates q p a s) ≡ true
+candidates-pass : (q : Thread → Bool) (p a : ℕ) (s : State) → all (candidate q p a s) (candidates q p a s) ≡ true
 candidates-pass q p a s = rw (candidates-are q p a s) (all-filter (candidate q p a s) (arrivals s))
 
-pub candidates-listed : (q : Thread → Bool) (p a : ℕ) (s : State) (t : ℕ) → occurs t (candidates q p a s) ≤ occurs t (arrivals s)
+candidates-listed : (q : Thread → Bool) (p a : ℕ) (s : State) (t : ℕ) → occurs t (candidates q p a s) ≤ occurs t (arrivals s)
 candidates-listed q p a s t = rw (candidates-are q p a s) (occurs-filter-le (candidate q p a s) t (arrivals s))
 
 -- a candidate is a thread of the process, and sleeps at the address

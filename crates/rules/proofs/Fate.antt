@@ -1,49 +1,30 @@
 -- What an event does to a thread, whatever the tables: the only ways in which a record changes, and so in which a sleeper comes back.
 use mathlib.Core.Path.{_≡_, refl, ap, _∙_}
-use mathlib.Core.Bool.{true, false}
 use mathlib.Core.List.{[], _∷_}
-use mathlib.Core.Logic.{_⊎_, inl, inr}
 use Prim.Native.Nat.{ℕ}
 use native.Mathlib.Omega.{arith}
-use lib.Dec.{eqb}
-use borrow.Author.Tests.{eqb-true}
 use Rattle.lists.specs.Lists.{elem}
-use Rattle.lists.proofs.Tests.{cases, clash, by-cases}
+use Rattle.lists.proofs.Tests.{cases, by-cases}
 use Rattle.lists.proofs.Filter.{all-filter}
-use Rattle.lists.proofs.Occurs.{elem-all}
+use Rattle.lists.proofs.Occurs.{elem-one, elem-all}
 use Rattle.tables.specs.declared.LastAnswer.the-variants.{NoneYet}
-use Rattle.rules.specs.declared.event.Command.{Command}
-use Rattle.rules.specs.declared.event.Command.the-variants.{Wait, Wake, Requeue, CmpRequeue, WakeOp, WaitBitset, WakeBitset, Unknown}
 use Rattle.rules.specs.declared.event.Call.{Call}
 use Rattle.rules.specs.declared.event.Event.{Event}
 use Rattle.rules.specs.declared.event.Event.the-variants.{Call as CallEvent, Store, Clock, Interrupt, Query}
 use Rattle.rules.specs.declared.answer.Answer.the-variants.{Asleep, Count}
-use Rattle.tables.specs.Sizes.{threads}
 use Rattle.tables.specs.Tables.{expired, expiredSleepers, World, threadNumber, running, threadOf, arrivals, fallAsleep, writeWord}
 use Rattle.rules.specs.Answers.{Outcome}
-use Rattle.rules.specs.Commands.{commandOf, isUnknown}
-use Rattle.rules.specs.Calls.{caller, wait, wake, requeue, wakeOp, callEffect}
+use Rattle.rules.specs.Commands.{commandOf}
+use Rattle.rules.specs.Calls.{caller}
 use Rattle.rules.specs.Events.{refusals, effect, step, clockEffect, interruptEffect}
 use Rattle.rules.specs.Claims.{Clear, wokenBy, movedBy, sleepsBy, Fate, stays, sleeps, wakes, moves, timesOut, isInterrupted}
-use Rattle.rules.proofs.Rows.{clear-pass, verdicts, step-refused, step-passed}
+use Rattle.rules.proofs.Rows.{verdicts, step-refused, step-clear}
 use Rattle.tables.proofs.Changes.{change-other, change-named}
 use Rattle.tables.proofs.Sound.{tables-sound}
 use Rattle.rules.proofs.Passed.{clear-passed, caller-below, sound-of}
+use Rattle.rules.proofs.Refused.{granted-answer}
 use Rattle.rules.proofs.Sleeps.{asleep-sleeps, asleep-leaves}
 use Rattle.rules.proofs.Taken.{takes-first, took-expired, took-interrupted}
-
--- a call that is not refused sleeps or is answered a count
-granted-answer : (k : Command) (c : Call) (w : World) → isUnknown k ≡ false
-    → (callEffect k c w .answer ≡ Asleep) ⊎ ((n : ℕ) × (callEffect k c w .answer ≡ Count n))
-unfolding callEffect wait wake requeue wakeOp
-granted-answer Wait c w h = inl refl
-granted-answer WaitBitset c w h = inl refl
-granted-answer Wake c w h = inr (_, refl)
-granted-answer WakeBitset c w h = inr (_, refl)
-granted-answer Requeue c w h = inr (_, refl)
-granted-answer CmpRequeue c w h = inr (_, refl)
-granted-answer WakeOp c w h = inr (_, refl)
-granted-answer Unknown c w h = clash true refl h
 
 module _ (w : World) (t : ℕ) where
   sleeper-fate : (c : Call) → step (CallEvent c) w .answer ≡ Asleep → Fate (CallEvent c) w t
@@ -54,7 +35,7 @@ module _ (w : World) (t : ℕ) where
       let left = ap (λ v. threadOf (v .state) t) (asleep-leaves c w h) in
       cases (elem t (caller c ∷ []))
       (λ e.
-      let it : t ≡ caller c = eqb-true t (caller c) (cases (eqb t (caller c)) (λ d. d) (λ d. clash (elem t (caller c ∷ [])) e (rw d))) in
+      let it : t ≡ caller c = elem-one t (caller c) e in
       let low = caller-below c (s .process) (s .index) in
       let size = tables-sound (w .state) (s .tables) .records in
       sleeps c refl it s (left ∙ change-named f (caller c ∷ []) (w .state .threads) t (running NoneYet) e (omega arith)))
@@ -71,7 +52,7 @@ module _ (w : World) (t : ℕ) where
   call-fate : (c : Call) → Clear (refusals (CallEvent c) w) → Fate (CallEvent c) w t
   unfolding refusals effect
   call-fate c r =
-      let done = step-passed (CallEvent c) w (clear-pass (refusals (CallEvent c) w) r) in
+      let done = step-clear (CallEvent c) w r in
       let same = ap (λ (o : Outcome). o .answer) done in
       by-cases (granted-answer (commandOf (c .op)) c w (clear-passed c w r .known))
       (λ h. sleeper-fate c (same ∙ h))
@@ -81,7 +62,7 @@ module _ (w : World) (t : ℕ) where
   unfolding refusals effect clockEffect expiredSleepers
   clock-fate now r =
       let g = sound-of w (r .1 .0) in
-      let done = ap (λ (o : Outcome). threadOf (o .world .state) t) (step-passed (Clock now) w (clear-pass (refusals (Clock now) w) r)) in
+      let done = ap (λ (o : Outcome). threadOf (o .world .state) t) (step-clear (Clock now) w r) in
       let took = took-expired now (w .state) g in
       cases (elem t (expiredSleepers now (w .state)))
       (λ e. timesOut now refl
@@ -94,13 +75,13 @@ module _ (w : World) (t : ℕ) where
   interrupt-fate p i r =
       let u = threadNumber p i in
       let g = sound-of w (r .1 .0) in
-      let done = ap (λ (o : Outcome). threadOf (o .world .state) t) (step-passed (Interrupt p i) w (clear-pass (refusals (Interrupt p i) w) r)) in
+      let done = ap (λ (o : Outcome). threadOf (o .world .state) t) (step-clear (Interrupt p i) w r) in
       cases (threadOf (w .state) u .waiting)
       (λ on.
       let took = took-interrupted u (w .state) g on in
       cases (elem t (u ∷ []))
       (λ e.
-      let it : t ≡ u = eqb-true t u (cases (eqb t u) (λ d. d) (λ d. clash (elem t (u ∷ [])) e (rw d))) in
+      let it : t ≡ u = elem-one t u e in
       isInterrupted p i refl it (ap (λ v. threadOf (w .state) v .waiting) it ∙ on) (done ∙ rw on (took .ran t e)))
       (λ e. stays (done ∙ rw on (took .stayed t e refl))))
       (λ off. stays (done ∙ rw off))
@@ -108,10 +89,10 @@ module _ (w : World) (t : ℕ) where
   passed-fate : (e : Event) → Clear (refusals e w) → Fate e w t
   unfolding effect writeWord
   passed-fate (CallEvent c) r = call-fate c r
-  passed-fate (Store p a v) r = stays (ap (λ (o : Outcome). threadOf (o .world .state) t) (step-passed (Store p a v) w (clear-pass (refusals (Store p a v) w) r)))
+  passed-fate (Store p a v) r = stays (ap (λ (o : Outcome). threadOf (o .world .state) t) (step-clear (Store p a v) w r))
   passed-fate (Clock now) r = clock-fate now r
   passed-fate (Interrupt p i) r = interrupt-fate p i r
-  passed-fate (Query p) r = stays (ap (λ (o : Outcome). threadOf (o .world .state) t) (step-passed (Query p) w (clear-pass (refusals (Query p) w) r)))
+  passed-fate (Query p) r = stays (ap (λ (o : Outcome). threadOf (o .world .state) t) (step-clear (Query p) w r))
 
 -- There is no other way.
 pub fate : (e : Event) (w : World) (t : ℕ) → Fate e w t

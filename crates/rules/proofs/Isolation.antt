@@ -17,8 +17,8 @@ use Rattle.rules.specs.Events.{step}
 use Rattle.rules.specs.History.{start, final, Named, process, nobody, named, isKept, isProcess, belongs, keptFor, answersTo}
 use Rattle.rules.specs.Claims.{Alike}
 use Rattle.rules.proofs.Preserved.{Valid, step-valid}
-use Rattle.rules.proofs.View.{ownWord, viewState, view, own-thread, view-own, view-arrivals, view-word}
-use Rattle.rules.proofs.Own.{viewOut, view-state, step-call, step-store, step-interrupt, step-query, step-clock}
+use Rattle.rules.proofs.View.{view-state, ownWord, viewState, view, own-thread, view-own, view-arrivals, view-word}
+use Rattle.rules.proofs.Own.{viewOut, step-call, step-store, step-interrupt, step-query, step-clock}
 use Rattle.rules.proofs.Other.{step-other}
 
 module _ (p : ℕ) where

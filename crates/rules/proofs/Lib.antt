@@ -1,4 +1,5 @@
 pub mod Rows
+pub mod Commands
 pub mod Passed
 pub mod Chosen
 pub mod Preserved

@@ -1,14 +1,14 @@
 -- "The count that a wake or requeue answers depends on no sleeper at a word that the call doesn't name."
 use mathlib.Core.Path.{_≡_, refl, ap, _∙_}
 use mathlib.Core.Bool.{Bool, true}
-use Prim.Native.Nat.{ℕ, _+_}
+use Prim.Native.Nat.{ℕ}
 use lib.ListN.{length, take, drop}
 use Rattle.lists.specs.Lists.{filter}
 use Rattle.lists.proofs.Occurs.{filter-agree}
 use Rattle.tables.specs.declared.State.{State}
 use Rattle.tables.specs.declared.Thread.{Thread}
 use Rattle.rules.specs.declared.event.Command.{Command}
-use Rattle.rules.specs.declared.event.Command.the-variants.{Wait, Wake, Requeue, CmpRequeue, WakeOp, WaitBitset, WakeBitset, Unknown}
+use Rattle.rules.specs.declared.event.Command.the-variants.{WakeOp}
 use Rattle.rules.specs.declared.event.Call.{Call}
 use Rattle.rules.specs.declared.event.Event.the-variants.{Call as CallEvent}
 use Rattle.rules.specs.declared.answer.Answer.the-variants.{Count}
@@ -18,7 +18,8 @@ use Rattle.rules.specs.Commands.{commandOf, uses}
 use Rattle.rules.specs.Calls.{isWakeOp, matches, secondCap, candidates, released, moved, releasedSecond, wait, wake, requeue, wakeOp, callEffect}
 use Rattle.rules.specs.Events.{effect, step}
 use Rattle.rules.specs.Claims.{SameSleepers, NamedAlike}
-use Rattle.rules.proofs.Taken.{counted-done}
+use Rattle.rules.proofs.Commands.{by-command}
+use Rattle.rules.proofs.Rows.{counted-done}
 
 candidates-alike : (q : Thread → Bool) (p a : ℕ) (s u : State) → SameSleepers p a s u → candidates q p a s ≡ candidates q p a u
 unfolding candidates
@@ -41,15 +42,14 @@ module _ (k : Command) (c : Call) (w v : World) (h : NamedAlike k c w v) where
       cc (h .word op, released-alike, candidates-alike (matches k c) (c .process) (c .uaddr2) (w .state) (v .state) (h .second two))
 
 answer-alike : (k : Command) (c : Call) (w v : World) → NamedAlike k c w v → callEffect k c w .answer ≡ callEffect k c v .answer
-unfolding callEffect wait wake requeue wakeOp
-answer-alike Wait c w v h = refl
-answer-alike WaitBitset c w v h = refl
-answer-alike Wake c w v h = ap (λ l. Count (length l)) (released-alike Wake c w v h)
-answer-alike WakeBitset c w v h = ap (λ l. Count (length l)) (released-alike WakeBitset c w v h)
-answer-alike Requeue c w v h = ap (λ l. Count (length l + 0)) (released-alike Requeue c w v h)
-answer-alike CmpRequeue c w v h = cc (released-alike CmpRequeue c w v h, moved-alike CmpRequeue c w v h)
-answer-alike WakeOp c w v h = cc (released-alike WakeOp c w v h, second-alike WakeOp c w v h refl refl)
-answer-alike Unknown c w v h = refl
+unfolding wait wake requeue wakeOp
+answer-alike k c w v = by-command (λ k f. NamedAlike k c w v → f c w .answer ≡ f c v .answer)
+    (λ k i h. refl)
+    (λ k h. ap (λ l. Count (length l)) (released-alike k c w v h))
+    (λ k h. cc (released-alike k c w v h, moved-alike k c w v h))
+    (λ h. cc (released-alike WakeOp c w v h, second-alike WakeOp c w v h refl refl))
+    (λ h. refl)
+    k
 
 pub count-local : (c : Call) (w v : World) (m n : ℕ) → NamedAlike (commandOf (c .op)) c w v
     → step (CallEvent c) w .answer ≡ Count m → step (CallEvent c) v .answer ≡ Count n → m ≡ n

@@ -29,7 +29,8 @@ use Rattle.rules.specs.Claims.{Took, wokenBy, movedBy, Fate, stays, slee
 use Rattle.tables.proofs.Sound.{Sound, listed-waiting}
 use Rattle.rules.proofs.Passed.{clear-passed}
 use Rattle.rules.proofs.Chosen.{candidate-own, moved-pass}
-use Rattle.rules.proofs.Taken.{takes-first, counted-clear}
+use Rattle.rules.proofs.Rows.{counted-clear}
+use Rattle.rules.proofs.Taken.{takes-first}
 use Rattle.rules.proofs.Fate.{fate}
 
 module _ (t a : ℕ) where
@@ -50,7 +51,7 @@ module _ (t a : ℕ) where
       k : Command
       k = commandOf (c .op)
 
-  pub enters : (e : Event) (w : World) → asleepThere t a w ≡ false → asleepThere t a (step e w .world) ≡ true → Enters t a e w
+  enters : (e : Event) (w : World) → asleepThere t a w ≡ false → asleepThere t a (step e w .world) ≡ true → Enters t a e w
   enters e w was-not now-asleep = go (fate e w t)
     where
       go : Fate e w t → Enters t a e w

@@ -3,16 +3,15 @@ use mathlib.Core.Path.{_≡_, refl, sym, ap, _∙_}
 use mathlib.Core.Bool.{true}
 use mathlib.Core.List.{List, [], _∷_, _++_}
 use Prim.Native.Nat.{ℕ}
-use native.Mathlib.Omega.{arith}
 use borrow.Author.Tests.{eqb-true, ne-eqb}
 use Rattle.lists.specs.Lists.{filter, all}
-use Rattle.lists.proofs.Tests.{cases}
+use Rattle.lists.proofs.Tests.{cases, never}
 use Rattle.lists.proofs.Filter.{filter-none, all-append}
 use Rattle.tables.specs.declared.State.{State}
 use Rattle.tables.specs.declared.LastAnswer.{LastAnswer}
 use Rattle.tables.specs.declared.LastAnswer.the-variants.{Woken, Interrupted}
 use Rattle.rules.specs.declared.event.Command.{Command}
-use Rattle.rules.specs.declared.event.Command.the-variants.{Wait, Wake, Requeue, CmpRequeue, WakeOp, WaitBitset, WakeBitset, Unknown}
+use Rattle.rules.specs.declared.event.Command.the-variants.{WakeOp}
 use Rattle.rules.specs.declared.event.Call.{Call}
 use Rattle.rules.specs.declared.event.Event.{Event}
 use Rattle.rules.specs.declared.event.Event.the-variants.{Call as CallEvent, Store, Clock, Interrupt, Query}
@@ -22,7 +21,8 @@ use Rattle.rules.specs.Calls.{caller, released, moved, releasedSecond, w
 use Rattle.rules.specs.Events.{refusals, interruptEffect, effect, step}
 use Rattle.rules.specs.History.{process, named}
 use Rattle.rules.specs.Claims.{Clear}
-use Rattle.rules.proofs.Rows.{verdicts, step-refused, step-passed, clear-pass}
+use Rattle.rules.proofs.Commands.{by-command}
+use Rattle.rules.proofs.Rows.{step-keeps}
 use Rattle.rules.proofs.Passed.{Passed, clear-passed, thread-index, uaddr2-inside}
 use Rattle.rules.proofs.View.{ownThread, viewState, view, own-thread, other-thread, view-end, view-move, view-sleep-other, view-write-other, end-none, move-none}
 use Rattle.rules.proofs.Own.{released-own, moved-own, second-own}
@@ -68,15 +68,8 @@ module _ (p : ℕ) (k : Command) (c : Call) (w : World) (apart : p ≡ c .proces
       (all-append (ownThread (c .process)) (released k c (w .state)) (releasedSecond k c w) (released-own k c (w .state)) (second-own k c w)))
 
 call-other : (p : ℕ) (k : Command) (c : Call) (w : World) → (p ≡ c .process → ⊥) → Passed k c w → view p (callEffect k c w .world) ≡ view p w
-unfolding callEffect
-call-other p Wait c w apart g = wait-other p Wait c w apart g
-call-other p WaitBitset c w apart g = wait-other p WaitBitset c w apart g
-call-other p Wake c w apart g = wake-other p Wake c w apart g
-call-other p WakeBitset c w apart g = wake-other p WakeBitset c w apart g
-call-other p Requeue c w apart g = requeue-other p Requeue c w apart g
-call-other p CmpRequeue c w apart g = requeue-other p CmpRequeue c w apart g
-call-other p WakeOp c w apart g = wakeOp-other p WakeOp c w apart g refl
-call-other p Unknown c w apart g = refl
+call-other p = by-command (λ k f. (c : Call) (w : World) → (p ≡ c .process → ⊥) → Passed k c w → view p (f c w .world) ≡ view p w)
+    (λ k i. wait-other p k) (wake-other p) (requeue-other p) (λ c w apart g. wakeOp-other p WakeOp c w apart g refl) (λ c w apart g. refl)
 
 effect-other : (p q : ℕ) → (p ≡ q → ⊥) → (e : Event) → named e ≡ process q → (w : World) → Clear (refusals e w) → view p (effect e w .world) ≡ view p w
 unfolding effect refusals interruptEffect
@@ -84,7 +77,7 @@ effect-other p q apart (CallEvent c) is w h =
     call-other p (commandOf (c .op)) c w (λ e. apart (let d : c .process ≡ q = cc in e ∙ d)) (clear-passed c w h)
 effect-other p q apart (Store r a v) is w h =
     view-write-other p r a v w (λ e. apart (let d : r ≡ q = cc in e ∙ d)) (h .1 .1 .1 .1 .0)
-effect-other p q apart (Clock now) is w h = let z : _≡_ {A = ℕ} 0 1 = cc in absurd (omega arith)
+effect-other p q apart (Clock now) is w h = never (cc)
 effect-other p q apart (Interrupt r i) is w h =
     let t = threadNumber r i in
     let d : r ≡ q = cc in
@@ -95,6 +88,4 @@ effect-other p q apart (Interrupt r i) is w h =
 effect-other p q apart (Query r) is w h = refl
 
 pub step-other : (p q : ℕ) → (p ≡ q → ⊥) → (e : Event) → named e ≡ process q → (w : World) → view p (step e w .world) ≡ view p w
-step-other p q apart e is w = verdicts e w
-    (λ x r. rw (step-refused e w x r))
-    (λ r. rw (step-passed e w (clear-pass (refusals e w) r)) (effect-other p q apart e is w r))
+step-other p q apart e is w = step-keeps (λ v. view p v ≡ view p w) e w refl (effect-other p q apart e is w)

@@ -13,7 +13,7 @@ use Rattle.tables.specs.declared.State.{State}
 use Rattle.tables.specs.declared.Thread.{Thread}
 use Rattle.tables.specs.declared.LastAnswer.the-variants.{Woken, TimedOut, Interrupted}
 use Rattle.rules.specs.declared.event.Command.{Command}
-use Rattle.rules.specs.declared.event.Command.the-variants.{Wait, Wake, Requeue, CmpRequeue, WakeOp, WaitBitset, WakeBitset, Unknown}
+use Rattle.rules.specs.declared.event.Command.the-variants.{WakeOp}
 use Rattle.rules.specs.declared.event.Call.{Call}
 use Rattle.rules.specs.declared.event.Event.{Event}
 use Rattle.rules.specs.declared.event.Event.the-variants.{Call as CallEvent, Store, Clock, Interrupt, Query}
@@ -27,23 +27,16 @@ use Rattle.rules.specs.WakeOp.{newWord}
 use Rattle.rules.specs.Calls.{wrongMemory, noThread, caller, secondCap, matches, candidates, released, moved, releasedSecond, wait, wake, requeue, wakeOp, callEffect, callRefusals, callRows, full}
 use Rattle.rules.specs.Events.{refusals, clockEffect, interruptEffect, bitsBelow, waitingSet, panel, effect, step}
 use Rattle.rules.specs.Claims.{Clear}
-use Rattle.rules.proofs.Rows.{Same, same-first, clear-pass, verdicts, step-refused, step-passed}
+use Rattle.rules.proofs.Commands.{by-command}
+use Rattle.rules.proofs.Rows.{Same, _then_, same-first, clear-pass, verdicts, step-refused, step-passed}
 use Rattle.tables.proofs.Sound.{room}
 use Rattle.rules.proofs.Preserved.{Valid}
 use Rattle.rules.proofs.Passed.{Passed, clear-passed, caller-below, memory-right, sound-right, thread-process, thread-index, uaddr-inside, uaddr2-inside}
 use Rattle.rules.proofs.Chosen.{candidate, candidate-own, candidates-are, released-pass, moved-pass, second-pass, atFirst, atSecond}
-use Rattle.rules.proofs.View.{ownThread, viewState, view, own-thread, view-arrivals, view-own, view-clock, view-word, view-end, view-move, view-sleep-own, view-with-clock, view-write-own, view-valid}
+use Rattle.rules.proofs.View.{ownThread, viewState, view, view-state, view-with-state, own-thread, view-arrivals, view-own, view-clock, view-word, view-end, view-move, view-sleep-own, view-with-clock, view-write-own, view-valid}
 
 abbrev pub viewOut : ℕ → Outcome → Outcome
 viewOut p o = outcome (o .answer) (view p (o .world))
-
-pub view-state : (p : ℕ) (w : World) → view p w .state ≡ viewState p (w .state)
-unfolding view
-view-state p w = refl
-
-pub view-with-state : (p : ℕ) (s : State) (w : World) → view p (withState s w) ≡ withState (viewState p s) (view p w)
-unfolding view
-view-with-state p s w = refl
 
 -- whom the process's wakes and requeues take: own sleepers, whom the view shows
 module _ (p : ℕ) where
@@ -143,15 +136,8 @@ module _ (k : Command) (c : Call) (w : World) (g : Passed k c w) where
       )
 
 call-own : (k : Command) (c : Call) (w : World) → Passed k c w → viewOut (c .process) (callEffect k c w) ≡ callEffect k c (view (c .process) w)
-unfolding callEffect
-call-own Wait c w g = wait-own Wait c w g
-call-own WaitBitset c w g = wait-own WaitBitset c w g
-call-own Wake c w g = wake-own Wake c w g
-call-own WakeBitset c w g = wake-own WakeBitset c w g
-call-own Requeue c w g = requeue-own Requeue c w g
-call-own CmpRequeue c w g = requeue-own CmpRequeue c w g
-call-own WakeOp c w g = wakeOp-own WakeOp c w g refl
-call-own Unknown c w g = refl
+call-own = by-command (λ k f. (c : Call) (w : World) → Passed k c w → viewOut (c .process) (f c w) ≡ f c (view (c .process) w))
+    (λ k i. wait-own k) wake-own requeue-own (λ c w g. wakeOp-own WakeOp c w g refl) (λ c w g. refl)
 
 -- the tests: each is the same on the view, where those before it do not apply
 both-false : {a b : Bool} → a ≡ false → b ≡ false → a ≡ b
@@ -172,48 +158,18 @@ call-rows : (c : Call) (w : World) → Valid w → Same (callRefusals c w) (call
 unfolding callRefusals callRows
 call-rows c w g =
     let p = c .process in
-    let k = commandOf (c .op) in (
-      refl,
-      same-memory p w g,
-      λ h1. (
-        refl,
-        same-tables p w g,
-        λ h2. (
-          refl,
-          refl,
-          λ h3. (
-            refl,
-            same-waiting p w g (c .index) (thread-index p (c .index) h3),
-            λ h4. (
-              refl,
-              refl,
-              λ h5. (
-                refl,
-                refl,
-                λ h6. (
-                  refl,
-                  refl,
-                  λ h7. (
-                    refl,
-                    refl,
-                    λ h8. (
-                      refl,
-                      rw (view-word p w (c .uaddr) (uaddr-inside k c h7)),
-                      λ h9. (
-                        refl,
-                        rw (view-state p w, view-clock p (w .state)),
-                        λ h10.
-                            (refl, room-too h3 h4, λ h11. tt),
-                      ),
-                    ),
-                  ),
-                ),
-              ),
-            ),
-          ),
-        ),
-      ),
-    )
+    same-memory p w g then λ h1.
+    same-tables p w g then λ h2.
+    refl then λ h3.
+    same-waiting p w g (c .index) (thread-index p (c .index) h3) then λ h4.
+    refl then λ h5.
+    refl then λ h6.
+    refl then λ h7.
+    refl then λ h8.
+    (rw (view-word p w (c .uaddr) (uaddr-inside (commandOf (c .op)) c h7))) then λ h9.
+    (rw (view-state p w, view-clock p (w .state))) then λ h10.
+    room-too h3 h4 then λ h11.
+    tt
   where
     room-too : noThread (c .process) (c .index) ≡ false → threadOf (w .state) (caller c) .waiting ≡ false
         → full (w .state .count) ≡ full (view (c .process) w .state .count)
@@ -278,13 +234,13 @@ module _ (w : World) (g : Valid w) where
   pub step-store : (p a v : ℕ) → viewOut p (step (Store p a v) w) ≡ step (Store p a v) (view p w)
   unfolding refusals effect
   step-store p a v = own-step p (Store p a v) w
-      (refl, same-memory p w g, λ h1. (refl, same-tables p w g, λ h2. (refl, refl, λ h3. (refl, refl, λ h4. (refl, refl, λ h5. tt)))))
+      (same-memory p w g then λ h1. same-tables p w g then λ h2. refl then λ h3. refl then λ h4. refl then λ h5. tt)
       (λ h. cc (view-write-own p a v w (h .1 .1 .1 .1 .0)))
 
   pub step-interrupt : (p i : ℕ) → viewOut p (step (Interrupt p i) w) ≡ step (Interrupt p i) (view p w)
   unfolding refusals effect interruptEffect
   step-interrupt p i = own-step p (Interrupt p i) w
-      (refl, same-memory p w g, λ h1. (refl, same-tables p w g, λ h2. (refl, refl, λ h3. tt)))
+      (same-memory p w g then λ h1. same-tables p w g then λ h2. refl then λ h3. tt)
       (λ h.
       let t = threadNumber p i in
       let small = thread-index p i (h .1 .1 .0) in
@@ -303,7 +259,7 @@ module _ (w : World) (g : Valid w) where
   step-clock p now =
       let out = expiredSleepers now (w .state) in
       kept-step p (Clock now) w
-      (refl, same-memory p w g, λ h1. (refl, same-tables p w g, λ h2. (refl, rw (view-state p w, view-clock p (w .state)), λ h3. tt)))
+      (same-memory p w g then λ h1. same-tables p w g then λ h2. (rw (view-state p w, view-clock p (w .state))) then λ h3. tt)
       (λ h. cc (
         view-with-state p (endSleeps TimedOut out (withClock now (w .state))) w,
         view-end p TimedOut out (withClock now (w .state)),

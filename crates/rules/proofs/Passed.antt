@@ -15,6 +15,7 @@ use Rattle.tables.specs.Tables.{outside, World, threadOf, wordAt, aligned, tabl
 use Rattle.rules.specs.Commands.{commandOf, notImplemented, isUnknown, bitSet, clockBit, uses}
 use Rattle.rules.specs.WakeOp.{undefinedOp}
 use Rattle.rules.specs.Calls.{wrongMemory, noProcess, noThread, caller, secondCap, badArgument, badAddress, isWakeOp, differs, late, callRefusals, callRows}
+use Rattle.rules.proofs.Rows.{_and_}
 use Rattle.tables.proofs.Sound.{Sound, tables-sound, sound-tables, room}
 
 pub record Passed (k : Command) (c : Call) (w : World) : Type 0 where
@@ -75,40 +76,19 @@ caller-below c p i = omega arith
 -- The last row, -12, adds nothing: the caller runs, so the list has room.
 pub passed-clear : (c : Call) (w : World) → Passed (commandOf (c .op)) c w → Clear (callRefusals c w)
 unfolding callRefusals callRows notImplemented
-passed-clear c w g = (
-  memory-right w (g .memory),
-  (
-    sound-right w (g .sound),
-    (
-      or-intro (lt-leb processes (c .process) (g .process)) (lt-leb threadsPerProcess (c .index) (g .index)),
-      (
-        g .runs,
-        (
-          or-intro (g .known) (g .monotonic),
-          (
-            g .arguments,
-            (
-              g .addresses,
-              (
-                g .defined,
-                (
-                  g .equal,
-                  (
-                    g .ahead,
-                    (
-                      lt-leb threads (w .state .count) (room (w .state) (g .sound) (caller c) (caller-below c (g .process) (g .index)) (g .runs)),
-                      tt,
-                    ),
-                  ),
-                ),
-              ),
-            ),
-          ),
-        ),
-      ),
-    ),
-  ),
-)
+passed-clear c w g =
+    memory-right w (g .memory)
+    and sound-right w (g .sound)
+    and or-intro (lt-leb processes (c .process) (g .process)) (lt-leb threadsPerProcess (c .index) (g .index))
+    and g .runs
+    and or-intro (g .known) (g .monotonic)
+    and g .arguments
+    and g .addresses
+    and g .defined
+    and g .equal
+    and g .ahead
+    and lt-leb threads (w .state .count) (room (w .state) (g .sound) (caller c) (caller-below c (g .process) (g .index)) (g .runs))
+    and tt
 
 -- what the argument rules tell
 module _ (k : Command) (c : Call) (h : badArgument k c ≡ false) where

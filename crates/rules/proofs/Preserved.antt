@@ -7,8 +7,6 @@ use lib.ListN.{length, length-set}
 use lib.Dec.{eqb, leb, ltb}
 use borrow.Author.Tests.{leb-false, lt-ltb}
 use Rattle.lists.proofs.Tests.{cases, and-intro}
-use Rattle.tables.specs.declared.State.{State}
-use Rattle.tables.specs.declared.LastAnswer.{LastAnswer}
 use Rattle.tables.specs.declared.LastAnswer.the-variants.{Woken, Interrupted}
 use Rattle.rules.specs.declared.event.Command.{Command}
 use Rattle.rules.specs.declared.event.Command.the-variants.{Wait, Wake, Requeue, CmpRequeue, WakeOp, WaitBitset, WakeBitset, Unknown}
@@ -22,10 +20,10 @@ use Rattle.rules.specs.Calls.{caller, timeoutGiven, deadlineOf, maskOf, 
 use Rattle.rules.specs.Events.{refusals, clockEffect, interruptEffect, effect, step}
 use Rattle.rules.specs.History.{start, final}
 use Rattle.rules.specs.Claims.{Clear}
-use Rattle.rules.proofs.Rows.{verdicts, step-refused, step-passed, clear-pass}
+use Rattle.rules.proofs.Rows.{step-keeps}
 use Rattle.tables.proofs.Changes.{arrivals-end}
 use Rattle.tables.proofs.Sound.{Sound, fresh-sound}
-use Rattle.tables.proofs.Kept.{below-ok, sound-end, sound-move, sound-sleep, sound-clock}
+use Rattle.tables.proofs.Kept.{below-ok, ending, sound-move, sound-sleep, sound-clock}
 use Rattle.rules.proofs.Chosen.{moved-left}
 use Rattle.rules.proofs.Passed.{Passed, clear-passed, caller-below, uaddr-aligned, uaddr2-aligned, mask-given, uaddr-inside, uaddr2-inside}
 
@@ -33,9 +31,6 @@ use Rattle.rules.proofs.Passed.{Passed, clear-passed, caller-below, uad
 pub record Valid (w : World) : Type 0 where
   pub memory : length (w .words) ≡ memoryWords
   pub sound : Sound (w .state)
-
-ending : (a : LastAnswer) (ts : List ℕ) (s : State) → Sound s → Sound (endSleeps a ts s)
-ending a ts s g = sound-end a ts s (g .records) (λ t e. g .kept t) (g .exact)
 
 written : (p a v : ℕ) (w : World) → Valid w → Valid (writeWord p a v w)
 unfolding writeWord
@@ -106,9 +101,7 @@ effect-valid (Interrupt p i) w g h = cases (threadOf (w .state) (threadNumber p 
 effect-valid (Query p) w g h = g
 
 pub step-valid : (e : Event) (w : World) → Valid w → Valid (step e w .world)
-step-valid e w g = verdicts e w
-    (λ x h. rw (step-refused e w x h) g)
-    (λ h. rw (step-passed e w (clear-pass (refusals e w) h)) (effect-valid e w g h))
+step-valid e w g = step-keeps Valid e w g (effect-valid e w g)
 
 pub final-valid : (h : List Event) (w : World) → Valid w → Valid (final h w)
 final-valid [] w g = g

@@ -1,22 +1,25 @@
 -- The table of answers: the first row that applies, tables whose rows agree, and steps that no row refuses.
 use mathlib.Core.Path.{_≡_, refl, sym, ap}
-use mathlib.Core.Bool.{false}
-use mathlib.Core.List.{List, [], _∷_}
+use mathlib.Core.Bool.{Bool, true, false, not}
+use mathlib.Core.List.{List, [], _∷_, _++_}
 use Prim.Native.Nat.{ℕ}
-use native.Mathlib.Omega.{arith}
-use Rattle.lists.proofs.Tests.{cases}
+use lib.Dec.{ltb}
+use Rattle.lists.proofs.Tests.{cases, clash, never}
 use Rattle.rules.specs.declared.answer.Errno.{Errno}
+use Rattle.rules.specs.declared.answer.Errno.the-variants.{ENXIO, EBADF, ESRCH, EINVAL, EFAULT}
 use Rattle.rules.specs.declared.answer.Verdict.{Verdict}
 use Rattle.rules.specs.declared.answer.Verdict.the-variants.{Refuse, Pass}
-use Rattle.rules.specs.declared.answer.Answer.the-variants.{Refused}
+use Rattle.rules.specs.declared.answer.Answer.the-variants.{Count, Refused}
 use Rattle.rules.specs.declared.event.Event.{Event}
-use Rattle.tables.specs.Tables.{World}
-use Rattle.rules.specs.Answers.{Row, first, outcome, judged}
+use Rattle.rules.specs.declared.event.Event.the-variants.{Call as CallEvent, Store, Clock, Interrupt, Query}
+use Rattle.tables.specs.Tables.{World, threadOf, wordAt, aligned, outside}
+use Rattle.rules.specs.Answers.{Row, _when_, first, outcome, judged}
+use Rattle.rules.specs.Calls.{wrongMemory, brokenTables, noProcess, noThread, caller, callRows, callRefusals}
 use Rattle.rules.specs.Events.{refusals, effect, step}
 use Rattle.rules.specs.Claims.{FirstOf, here, later, Clear}
 
 pub not-pass {ℓ} : {P : Type ℓ} {x : Errno} → Refuse x ≡ Pass → P
-not-pass e = let z : _≡_ {A = ℕ} 0 1 = cc in absurd (omega arith)
+not-pass e = never (cc)
 
 pub first-of : (x : Errno) (rs : List Row) → first rs ≡ Refuse x → FirstOf x rs
 first-of x [] h = not-pass (sym h)
@@ -34,12 +37,57 @@ pub clear-pass : (rs : List Row) → Clear rs → first rs ≡ Pass
 clear-pass [] h = refl
 clear-pass (r ∷ rs) h = cc (h .0, clear-pass rs (h .1))
 
+-- A table of which no row applies, one row to a line: this row does not apply, and neither do the next.
+infixr 30 _and_
+pub _and_ : {A B : Type 0} → A → B → A × B
+a and b = (a, b)
+
+-- rows before others: the first of them that applies answers, and where none does, the others answer
+pub refused-before : (rs qs : List Row) (x : Errno) → first rs ≡ Refuse x → first (rs ++ qs) ≡ Refuse x
+refused-before [] qs x h = not-pass (sym h)
+refused-before (r ∷ rs) qs x h = cases (r .applies) (λ e. cc) (λ e. cc (refused-before rs qs x (cc)))
+
+pub passed-before : (rs qs : List Row) → first rs ≡ Pass → first (rs ++ qs) ≡ first qs
+passed-before [] qs h = refl
+passed-before (r ∷ rs) qs h = cases (r .applies) (λ e. not-pass {x = r .errno} (cc)) (λ e. cc (passed-before rs qs (cc)))
+
+-- The first two rows of every event but the panel query, and the rows behind them.
+abbrev pub firstRows : World → List Row
+firstRows w = ENXIO when wrongMemory w ∷ EBADF when brokenTables w ∷ []
+
+abbrev pub ownRows : Event → World → List Row
+ownRows (CallEvent c) w = callRows c (threadOf (w .state) (caller c) .waiting) (w .state .clock) (w .state .count) (wordAt w (c .process) (c .uaddr))
+ownRows (Store p a v) w = ESRCH when noProcess p ∷ EINVAL when not (aligned a) ∷ EFAULT when outside a ∷ []
+ownRows (Clock now) w = EINVAL when ltb now (w .state .clock) ∷ []
+ownRows (Interrupt p i) w = ESRCH when noThread p i ∷ []
+ownRows (Query p) w = []
+
+abbrev pub isQuery : Event → Bool
+isQuery (CallEvent c) = false
+isQuery (Store p a v) = false
+isQuery (Clock now) = false
+isQuery (Interrupt p i) = false
+isQuery (Query p) = true
+
+pub all-rows : (e : Event) (w : World) → isQuery e ≡ false → refusals e w ≡ firstRows w ++ ownRows e w
+unfolding refusals callRefusals
+all-rows (CallEvent c) w h = refl
+all-rows (Store p a v) w h = refl
+all-rows (Clock now) w h = refl
+all-rows (Interrupt p i) w h = refl
+all-rows (Query p) w h = clash true refl h
+
 -- The same errors in the same order, and each test the same where no earlier one applies.
 abbrev pub Same : List Row → List Row → Type 0
 Same [] [] = Unit {0}
 Same [] (q ∷ qs) = ⊥
 Same (r ∷ rs) [] = ⊥
 Same (r ∷ rs) (q ∷ qs) = (r .errno ≡ q .errno) × (r .applies ≡ q .applies) × (r .applies ≡ false → Same rs qs)
+
+-- Two tables that agree, one row to a line: the tests of this row agree, then, where it does not apply, those of the next.
+infixr 30 _then_
+pub _then_ : {x : Errno} {A B : Type 0} → A → B → (x ≡ x) × A × B
+a then b = (refl, a, b)
 
 pub same-first : (rs qs : List Row) → Same rs qs → first rs ≡ first qs
 same-first [] [] h = refl
@@ -57,6 +105,9 @@ pub step-passed : (e : Event) (w : World) → first (refusals e w) ≡ Pass → 
 unfolding step
 step-passed e w h = ap (λ v. judged v (effect e w) w) h
 
+pub step-clear : (e : Event) (w : World) → Clear (refusals e w) → step e w ≡ effect e w
+step-clear e w h = step-passed e w (clear-pass (refusals e w) h)
+
 -- by cases, on what the table of answers says of an event
 pub verdicts {ℓ} : {P : Type ℓ} (e : Event) (w : World) → ((x : Errno) → first (refusals e w) ≡ Refuse x → P)
     → (Clear (refusals e w) → P) → P
@@ -65,3 +116,14 @@ verdicts {P = P} e w refused passed = go (first (refusals e w)) refl
     go : (v : Verdict) → first (refusals e w) ≡ v → P
     go (Refuse x) h = refused x h
     go Pass h = passed (pass-clear (refusals e w) h)
+
+-- an event that is answered a count was not refused
+pub counted-clear : (e : Event) (w : World) (n : ℕ) → step e w .answer ≡ Count n → Clear (refusals e w)
+counted-clear e w n h = verdicts e w (λ x r. never (cc (step-refused e w x r))) (λ r. r)
+
+pub counted-done : (e : Event) (w : World) (n : ℕ) → step e w .answer ≡ Count n → step e w ≡ effect e w
+counted-done e w n h = step-clear e w (counted-clear e w n h)
+
+-- what holds before an event, and after its effect where no row refuses it, holds after its step
+pub step-keeps {ℓ} : (P : World → Type ℓ) (e : Event) (w : World) → P w → (Clear (refusals e w) → P (effect e w .world)) → P (step e w .world)
+step-keeps P e w old new = verdicts e w (λ x h. rw (step-refused e w x h) old) (λ h. rw (step-clear e w h) (new h))

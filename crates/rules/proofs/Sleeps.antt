@@ -1,13 +1,12 @@
 -- Demand 2, waits: when exactly a call is answered "asleep", and what it then leaves.
-use mathlib.Core.Path.{_≡_, refl, sym, ap, _∙_}
+use mathlib.Core.Path.{_≡_, sym, ap, _∙_}
 use mathlib.Core.Bool.{true, false, _&&_}
-use mathlib.Core.Logic.{inl, inr}
 use Prim.Native.Nat.{ℕ, _%_, _<_}
 use lib.Dec.{eqb}
 use borrow.Author.Tests.{eqb-true, eqb-false, eq-eqb, ne-eqb, leb-false, lt-leb, not-false}
 use Rattle.lists.proofs.Tests.{cases, by-cases, never}
 use Rattle.rules.specs.declared.event.Command.{Command}
-use Rattle.rules.specs.declared.event.Command.the-variants.{Wait, Wake, Requeue, CmpRequeue, WakeOp, WaitBitset, WakeBitset, Unknown}
+use Rattle.rules.specs.declared.event.Command.the-variants.{WaitBitset}
 use Rattle.rules.specs.declared.event.Call.{Call}
 use Rattle.rules.specs.declared.event.Event.the-variants.{Call as CallEvent}
 use Rattle.rules.specs.declared.answer.Answer.the-variants.{Asleep}
@@ -18,28 +17,23 @@ use Rattle.rules.specs.WakeOp.{undefinedOp}
 use Rattle.rules.specs.Calls.{caller, timeoutGiven, deadlineOf, badArgument, badAddress, isWakeOp, differs, late, wait, wake, requeue, wakeOp, callEffect}
 use Rattle.rules.specs.Events.{refusals, effect, step}
 use Rattle.rules.specs.Claims.{IsWait, Sleeps, sleepsBy}
-use Rattle.rules.proofs.Rows.{clear-pass, verdicts, step-refused, step-passed}
+use Rattle.rules.proofs.Commands.{by-command}
+use Rattle.rules.proofs.Rows.{verdicts, step-refused, step-clear}
 use Rattle.tables.proofs.Sound.{tables-sound, sound-tables}
 use Rattle.rules.proofs.Passed.{Passed, clear-passed, passed-clear, uaddr-aligned, mask-given, uaddr-inside}
 
 -- the answers of the commands
 wait-answer : (k : Command) (c : Call) (w : World) → callEffect k c w .answer ≡ Asleep → IsWait k
-unfolding callEffect wake requeue wakeOp
-wait-answer Wait c w h = inl refl
-wait-answer WaitBitset c w h = inr refl
-wait-answer Wake c w h = never (cc)
-wait-answer WakeBitset c w h = never (cc)
-wait-answer Requeue c w h = never (cc)
-wait-answer CmpRequeue c w h = never (cc)
-wait-answer WakeOp c w h = never (cc)
-wait-answer Unknown c w h = never (cc)
+unfolding wake requeue wakeOp
+wait-answer k c w = by-command (λ k f. f c w .answer ≡ Asleep → IsWait k)
+    (λ k i h. i) (λ k h. never (cc)) (λ k h. never (cc)) (λ h. never (cc)) (λ h. never (cc)) k
 
-pub wait-is : (k : Command) (c : Call) (w : World) → IsWait k → callEffect k c w ≡ wait k c w
+wait-is : (k : Command) (c : Call) (w : World) → IsWait k → callEffect k c w ≡ wait k c w
 unfolding callEffect
 wait-is k c w i = by-cases i (λ e. rw e) (λ e. rw e)
 
 -- what a wait uses
-pub wait-deadline : (k : Command) → IsWait k → uses k .deadline ≡ true
+wait-deadline : (k : Command) → IsWait k → uses k .deadline ≡ true
 wait-deadline k i = by-cases i (λ e. rw e) (λ e. rw e)
 
 wait-compare : (k : Command) → IsWait k → uses k .compare ≡ true
@@ -117,9 +111,9 @@ sleeps-passed c w s =
     }
 
 -- a call that no row refuses does what its command does
-pub call-done : (c : Call) (w : World) → Passed (commandOf (c .op)) c w → step (CallEvent c) w ≡ callEffect (commandOf (c .op)) c w
+call-done : (c : Call) (w : World) → Passed (commandOf (c .op)) c w → step (CallEvent c) w ≡ callEffect (commandOf (c .op)) c w
 unfolding effect refusals
-call-done c w g = step-passed (CallEvent c) w (clear-pass (refusals (CallEvent c) w) (passed-clear c w g))
+call-done c w g = step-clear (CallEvent c) w (passed-clear c w g)
 
 pub asleep-sleeps : (c : Call) (w : World) → step (CallEvent c) w .answer ≡ Asleep → Sleeps c w
 unfolding refusals

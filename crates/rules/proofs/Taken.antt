@@ -2,14 +2,14 @@
 use mathlib.Core.Path.{_≡_, refl, sym, ap, _∙_}
 use mathlib.Core.Bool.{true, false, cond, _&&_}
 use mathlib.Core.List.{List, [], _∷_, _++_, append-nil}
-use Prim.Native.Nat.{ℕ, _+_, _≤_, _<_}
+use Prim.Native.Nat.{ℕ, _+_, _≤_}
 use native.Mathlib.Omega.{arith}
 use lib.ListN.{length, length-append}
 use lib.Dec.{eqb, leb}
 use borrow.Author.Tests.{eqb-true}
 use Rattle.lists.specs.Lists.{elem, bit, countBelow}
 use Rattle.lists.proofs.Tests.{cases, clash, never, and-left}
-use Rattle.lists.proofs.Occurs.{occurs, bit-true, elem-occurs, absent-occurs, occurs-absent, occurs-append, occurs-without, occurs-taken-out, occurs-filter-le, elem-all, elem-filter}
+use Rattle.lists.proofs.Occurs.{occurs, elem-occurs, absent-occurs, occurs-absent, occurs-append, occurs-without, occurs-taken-out, occurs-filter-le, elem-all, elem-filter}
 use Rattle.tables.specs.declared.State.{State}
 use Rattle.tables.specs.declared.LastAnswer.{LastAnswer}
 use Rattle.tables.specs.declared.LastAnswer.the-variants.{Woken, TimedOut, Interrupted}
@@ -26,16 +26,11 @@ use Rattle.rules.specs.Commands.{commandOf, uses}
 use Rattle.rules.specs.Calls.{matches, released, moved, releasedSecond, wait, wake, requeue, wakeOp, callEffect}
 use Rattle.rules.specs.Events.{refusals, effect, step, clockEffect, interruptEffect}
 use Rattle.rules.specs.Claims.{Clear, Took, Takes, woke, shifted, wokenCount, shiftedCount, countsMoves}
-use Rattle.rules.proofs.Rows.{clear-pass, verdicts, step-refused, step-passed}
-use Rattle.tables.proofs.Sound.{Sound, waiting-below, once, listed-waiting}
+use Rattle.rules.proofs.Rows.{counted-clear, counted-done}
+use Rattle.tables.proofs.Sound.{Sound, once, listed-waiting, part-below}
 use Rattle.rules.proofs.Passed.{Passed, clear-passed, sound-of, addresses-apart}
 use Rattle.rules.proofs.Chosen.{candidate-at, moved-pass, atFirst, parts-listed, second-listed}
 use Rattle.rules.proofs.Took.{took-none, took-end, took-move, took-clock, count-woke, count-shifted}
-
--- what is listed waits, so it is a thread
-listed-below : (s : State) → Sound s → (ts : List ℕ) → ((t : ℕ) → occurs t ts ≤ occurs t (arrivals s)) → (t : ℕ) → elem t ts ≡ true → t < threads
-listed-below s g ts sub t e =
-    waiting-below s g t (bit-true (threadOf s t .waiting) (omega (arith, elem-occurs t ts e, sub t, g .exact t)))
 
 module _ (k : Command) (c : Call) (w : World) (g : Sound (w .state)) where
   released-listed : (t : ℕ) → occurs t (released k c (w .state)) ≤ occurs t (arrivals (w .state))
@@ -56,19 +51,19 @@ module _ (k : Command) (c : Call) (w : World) (g : Sound (w .state)) where
       (λ e. omega (arith, occurs-append t out (releasedSecond k c w), second-listed k c w t, occurs-without t out (arrivals (w .state)) e, absent-occurs t out e))
 
   took-released : Took Woken (released k c (w .state)) [] (c .uaddr2) (w .state) (endSleeps Woken (released k c (w .state)) (w .state))
-  took-released = took-end Woken (released k c (w .state)) (w .state) (g .records) (listed-below (w .state) g (released k c (w .state)) released-listed) (c .uaddr2)
+  took-released = took-end Woken (released k c (w .state)) (w .state) (g .records) (part-below (w .state) g (released k c (w .state)) released-listed) (c .uaddr2)
 
   took-requeue : Took Woken (released k c (w .state)) (moved k c (w .state)) (c .uaddr2) (w .state)
       (moveSleeps (c .uaddr2) (moved k c (w .state)) (endSleeps Woken (released k c (w .state)) (w .state)))
   took-requeue =
-      took-move Woken (released k c (w .state)) (w .state) (g .records) (listed-below (w .state) g (released k c (w .state)) released-listed) (c .uaddr2)
-      (moved k c (w .state)) (listed-below (w .state) g (moved k c (w .state)) moved-listed) moved-not-released
+      took-move Woken (released k c (w .state)) (w .state) (g .records) (part-below (w .state) g (released k c (w .state)) released-listed) (c .uaddr2)
+      (moved k c (w .state)) (part-below (w .state) g (moved k c (w .state)) moved-listed) moved-not-released
 
   took-both : Took Woken (released k c (w .state) ++ releasedSecond k c w) [] (c .uaddr2) (w .state)
       (endSleeps Woken (released k c (w .state) ++ releasedSecond k c w) (w .state))
   took-both =
       let out = released k c (w .state) ++ releasedSecond k c w in
-      took-end Woken out (w .state) (g .records) (listed-below (w .state) g out both-listed) (c .uaddr2)
+      took-end Woken out (w .state) (g .records) (part-below (w .state) g out both-listed) (c .uaddr2)
 
 -- a released list alone
 alone : (k : Command) (c : Call) (w : World) (on : List ℕ) (u : State) → Took Woken (released k c (w .state)) on (c .uaddr2) (w .state) u
@@ -96,7 +91,7 @@ pub took-expired : (now : ℕ) (s : State) → Sound s
     → Took TimedOut (expiredSleepers now s) [] 0 s (endSleeps TimedOut (expiredSleepers now s) (withClock now s))
 took-expired now s g =
     took-clock now
-    (took-end TimedOut (expiredSleepers now s) (withClock now s) (g .records) (listed-below s g (expiredSleepers now s) (expired-listed now s)) 0)
+    (took-end TimedOut (expiredSleepers now s) (withClock now s) (g .records) (part-below s g (expiredSleepers now s) (expired-listed now s)) 0)
 
 one-listed : (t : ℕ) (s : State) → Sound s → threadOf s t .waiting ≡ true → (u : ℕ) → occurs u (t ∷ []) ≤ occurs u (arrivals s)
 one-listed t s g e u = cases (eqb u t)
@@ -104,14 +99,7 @@ one-listed t s g e u = cases (eqb u t)
     (λ d. rw d (omega arith))
 
 pub took-interrupted : (t : ℕ) (s : State) → Sound s → threadOf s t .waiting ≡ true → Took Interrupted (t ∷ []) [] 0 s (endSleeps Interrupted (t ∷ []) s)
-took-interrupted t s g e = took-end Interrupted (t ∷ []) s (g .records) (listed-below s g (t ∷ []) (one-listed t s g e)) 0
-
--- an event that is answered a count was not refused
-pub counted-clear : (e : Event) (w : World) (n : ℕ) → step e w .answer ≡ Count n → Clear (refusals e w)
-counted-clear e w n h = verdicts e w (λ x r. never (cc (step-refused e w x r))) (λ r. r)
-
-pub counted-done : (e : Event) (w : World) (n : ℕ) → step e w .answer ≡ Count n → step e w ≡ effect e w
-counted-done e w n h = step-passed e w (clear-pass (refusals e w) (counted-clear e w n h))
+took-interrupted t s g e = took-end Interrupted (t ∷ []) s (g .records) (part-below s g (t ∷ []) (one-listed t s g e)) 0
 
 -- A wake or requeue takes these, and leaves every other record and the order of every other entry as they were.
 pub takes-first : (c : Call) (w : World) (n : ℕ) → step (CallEvent c) w .answer ≡ Count n
@@ -148,16 +136,11 @@ interrupt-ends p i w n h e =
 -- The count.
 
 -- nothing but sleeps that ended
-ends-counted : (a : LastAnswer) (out : List ℕ) (s u : State) → Sound s → Took a out [] 0 s u → ((t : ℕ) → occurs t out ≤ occurs t (arrivals s))
+ends-counted : (a : LastAnswer) (out : List ℕ) (target : ℕ) (s u : State) → Sound s → Took a out [] target s u → ((t : ℕ) → occurs t out ≤ occurs t (arrivals s))
     → length out ≡ countBelow threads (woke s u)
-ends-counted a out s u g took sub = count-woke a out [] 0 s u g took (λ t. omega (arith, sub t)) (λ t e. clash false e refl)
+ends-counted a out target s u g took sub = count-woke a out [] target s u g took (λ t. omega (arith, sub t)) (λ t e. clash false e refl)
 
 module _ (k : Command) (c : Call) (w : World) (g : Sound (w .state)) where
-  woken-counted : (v : State) → Took Woken (released k c (w .state)) [] (c .uaddr2) (w .state) v
-      → length (released k c (w .state)) ≡ countBelow threads (woke (w .state) v)
-  woken-counted v took =
-      count-woke Woken (released k c (w .state)) [] (c .uaddr2) (w .state) v g took (λ t. omega (arith, released-listed k c w g t)) (λ t e. clash false e refl)
-
   module _ (v : State) (took : Took Woken (released k c (w .state)) (moved k c (w .state)) (c .uaddr2) (w .state) v) (apart : eqb (c .uaddr) (c .uaddr2) ≡ false) where
     away : (t : ℕ) → elem t (moved k c (w .state)) ≡ true → eqb (threadOf (w .state) t .uaddr) (c .uaddr2) ≡ false
     away t e =
@@ -174,7 +157,7 @@ module _ (k : Command) (c : Call) (w : World) (g : Sound (w .state)) where
       → length (released k c (w .state)) + length (releasedSecond k c w) ≡ countBelow threads (woke (w .state) v)
   both-counted v took =
       sym (length-append (released k c (w .state)) (releasedSecond k c w))
-      ∙ count-woke Woken (released k c (w .state) ++ releasedSecond k c w) [] (c .uaddr2) (w .state) v g took (λ t. omega (arith, both-listed k c w g t)) (λ t e. clash false e refl)
+      ∙ ends-counted Woken (released k c (w .state) ++ releasedSecond k c w) (c .uaddr2) (w .state) v g took (both-listed k c w g)
 
 call-counted : (k : Command) (c : Call) (w : World) (n : ℕ) → Passed k c w → callEffect k c w .answer ≡ Count n
     → n ≡ wokenCount w (callEffect k c w .world) + cond (uses k .moves && uses k .compare) (shiftedCount w (callEffect k c w .world)) 0
@@ -182,9 +165,9 @@ unfolding callEffect wait wake requeue wakeOp writeWord
 call-counted Wait c w n g h = never (cc)
 call-counted WaitBitset c w n g h = never (cc)
 call-counted Wake c w n g h = let m : n ≡ length (released Wake c (w .state)) = cc in
-    omega (arith, woken-counted Wake c w (g .sound) _ (took-released Wake c w (g .sound)))
+    omega (arith, ends-counted Woken _ _ (w .state) _ (g .sound) (took-released Wake c w (g .sound)) (released-listed Wake c w (g .sound)))
 call-counted WakeBitset c w n g h = let m : n ≡ length (released WakeBitset c (w .state)) = cc in
-    omega (arith, woken-counted WakeBitset c w (g .sound) _ (took-released WakeBitset c w (g .sound)))
+    omega (arith, ends-counted Woken _ _ (w .state) _ (g .sound) (took-released WakeBitset c w (g .sound)) (released-listed WakeBitset c w (g .sound)))
 call-counted Requeue c w n g h = let m : n ≡ length (released Requeue c (w .state)) + 0 = cc in
     omega (arith, released-counted Requeue c w (g .sound) _ (took-requeue Requeue c w (g .sound)) (addresses-apart Requeue c (g .arguments) refl))
 call-counted CmpRequeue c w n g h = let m : n ≡ length (released CmpRequeue c (w .state)) + length (moved CmpRequeue c (w .state)) = cc in
@@ -196,7 +179,7 @@ call-counted WakeOp c w n g h = let m : n ≡ length (released WakeOp c (w .stat
 call-counted Unknown c w n g h = never (cc)
 
 nothing-woken : (w : World) → Sound (w .state) → 0 ≡ wokenCount w w
-nothing-woken w g = ends-counted Woken [] (w .state) (w .state) g (took-none Woken 0 (w .state)) (λ t. omega arith)
+nothing-woken w g = ends-counted Woken [] 0 (w .state) (w .state) g (took-none Woken 0 (w .state)) (λ t. omega arith)
 
 effect-counted : (e : Event) (w : World) (n : ℕ) → Clear (refusals e w) → effect e w .answer ≡ Count n
     → n ≡ wokenCount w (effect e w .world) + cond (countsMoves e) (shiftedCount w (effect e w .world)) 0
@@ -206,12 +189,12 @@ effect-counted (Store p a v) w n r h = let m : n ≡ 0 = cc in omega (arith, not
 effect-counted (Clock now) w n r h =
     let g = sound-of w (r .1 .0) in
     let m : n ≡ length (expiredSleepers now (w .state)) = cc in
-    omega (arith, ends-counted TimedOut (expiredSleepers now (w .state)) (w .state) _ g (took-expired now (w .state) g) (expired-listed now (w .state)))
+    omega (arith, ends-counted TimedOut (expiredSleepers now (w .state)) 0 (w .state) _ g (took-expired now (w .state) g) (expired-listed now (w .state)))
 effect-counted (Interrupt p i) w n r h = cases (threadOf (w .state) (threadNumber p i) .waiting)
     (λ e.
     let g = sound-of w (r .1 .0) in
     let m : n ≡ 1 = cc in
-    rw e (omega (arith, ends-counted Interrupted (threadNumber p i ∷ []) (w .state) _ g (took-interrupted (threadNumber p i) (w .state) g e) (one-listed (threadNumber p i) (w .state) g e))))
+    rw e (omega (arith, ends-counted Interrupted (threadNumber p i ∷ []) 0 (w .state) _ g (took-interrupted (threadNumber p i) (w .state) g e) (one-listed (threadNumber p i) (w .state) g e))))
     (λ e. let m : n ≡ 0 = cc in rw e (omega (arith, nothing-woken w (sound-of w (r .1 .0)))))
 effect-counted (Query p) w n r h = never (cc)
 

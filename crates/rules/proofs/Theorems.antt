@@ -26,7 +26,7 @@ use Rattle.rules.specs.Calls.{caller, secondCap, matches, candidates, re
 use Rattle.rules.specs.Events.{refusals, effect, step}
 use Rattle.rules.specs.History.{start, final, keptFor, answersTo}
 use Rattle.rules.specs.Claims.{FirstOf, Clear, Sleeps, sleepsBy, Took, Takes, wokenCount, shiftedCount, countsMoves, NamedAlike, Fate, asleepThere, sleptThrough, Since, Alike}
-use Rattle.rules.proofs.Rows.{first-of, of-first, clear-pass, verdicts, step-refused, step-passed}
+use Rattle.rules.proofs.Rows.{first-of, of-first, verdicts, step-refused, step-clear}
 use Rattle.rules.specs.Cases.{twelve, given}
 use Rattle.rules.proofs.Cases.{as-document-01-says}
 use Rattle.tables.proofs.Sound.{tables-sound, sound-tables, none-overdue}
@@ -47,7 +47,7 @@ pub refused-or-done : (e : Event) (w : World)
     → ((x : Errno) × FirstOf x (refusals e w) × (step e w ≡ outcome (Refused x) w)) ⊎ (Clear (refusals e w) × (step e w ≡ effect e w))
 refused-or-done e w = verdicts e w
     (λ x h. inl (x, first-of x (refusals e w) h, step-refused e w x h))
-    (λ h. inr (h, step-passed e w (clear-pass (refusals e w) h)))
+    (λ h. inr (h, step-clear e w h))
 
 -- "A refusal gives the one answer that document 01 fixes": that of the first row that applies, exactly when there is one.
 pub refused-exactly : (e : Event) (w : World) (x : Errno) → (step e w .answer ≡ Refused x) ↔ FirstOf x (refusals e w)

@@ -1,25 +1,26 @@
 -- What a process sees: the world with all that is other processes' taken out. Each change on the view is the view of the change.
-use mathlib.Core.Path.{_≡_, refl, sym, ap, _∙_}
+use mathlib.Core.Path.{_≡_, refl, _∙_}
 use mathlib.Core.Bool.{Bool, true, false, cond}
 use mathlib.Core.List.{List, [], _∷_, _++_, append-nil}
 use Prim.Native.Nat.{ℕ, _/_, _<_}
 use native.Mathlib.Omega.{arith}
-use lib.ListN.{length, getD, set}
+use lib.ListN.{getD, set}
 use lib.Dec.{eqb}
 use borrow.Author.Tests.{eq-eqb, ne-eqb, leb-false}
-use Rattle.lists.specs.Lists.{filter, update, elem, without, padTo}
+use Rattle.lists.specs.Lists.{filter, update, elem, without}
 use Rattle.lists.proofs.Tests.{cases}
 use Rattle.lists.proofs.Filter.{filter-append, filter-true}
 use Rattle.lists.proofs.Update.{length-update, getD-update-fixed, update-comm, update-set, update-set-forgotten}
-use Rattle.lists.proofs.Occurs.{occurs, occurs-filter, occurs-filtered-out, elem-filter, elem-filtered-out, without-filter}
+use Rattle.lists.proofs.Occurs.{occurs-filter, occurs-filtered-out, elem-filter, elem-filtered-out, without-filter}
 use Rattle.tables.specs.declared.State.{State}
 use Rattle.tables.specs.declared.Thread.{Thread}
 use Rattle.tables.specs.declared.LastAnswer.{LastAnswer}
 use Rattle.tables.specs.declared.LastAnswer.the-variants.{NoneYet}
-use Rattle.tables.specs.Sizes.{threadsPerProcess, wordsPerProcess, bytesPerProcess, threads, noEntry}
-use Rattle.tables.specs.Tables.{outside, World, threadNumber, processOf, wordNumber, wordAt, running, threadOf, arrivals, change, ended, movedTo, withArrivals, withThreads, withClock, endSleeps, moveSleeps, fallAsleep, writeWord}
+use Rattle.tables.specs.Sizes.{threadsPerProcess, wordsPerProcess, bytesPerProcess}
+use Rattle.tables.specs.Tables.{outside, World, threadNumber, processOf, wordNumber, wordAt, running, threadOf, arrivals, change, ended, movedTo, withArrivals, withThreads, withClock, endSleeps, moveSleeps, fallAsleep, writeWord, withState}
 use Rattle.tables.proofs.Changes.{arrivals-with, change-none}
-use Rattle.tables.proofs.Sound.{Sound, running-ok}
+use Rattle.tables.proofs.Sound.{Sound, running-ok, sound-with}
+use Rattle.tables.proofs.Flags.{process-own}
 use Rattle.rules.proofs.Preserved.{Valid}
 
 -- thread t, and word number i, are process p's
@@ -40,6 +41,14 @@ viewState p s =
 unfoldable pub view : ℕ → World → World
 view p w = record { state = viewState p (w .state); words = onlyOwn (ownWord p) 0 (w .words) }
 
+pub view-state : (p : ℕ) (w : World) → view p w .state ≡ viewState p (w .state)
+unfolding view
+view-state p w = refl
+
+pub view-with-state : (p : ℕ) (s : State) (w : World) → view p (withState s w) ≡ withState (viewState p s) (view p w)
+unfolding view
+view-with-state p s w = refl
+
 module _ {A : Type 0} (own : ℕ → Bool) (d : A) where
   getD-own : (l : List A) (i : ℕ) (z : A) → own i ≡ true → getD (onlyOwn own d l) i z ≡ getD l i z
   getD-own l i z e = getD-update-fixed (λ i x. cond (own i) x d) l i z (rw e) ∙ rw e
@@ -55,15 +64,15 @@ module _ {A : Type 0} (own : ℕ → Bool) (d : A) where
 
 -- whose a thread and a word are
 pub own-thread : (p i : ℕ) → i < threadsPerProcess → ownThread p (threadNumber p i) ≡ true
-own-thread p i h = eq-eqb (processOf (threadNumber p i)) p (omega arith)
+own-thread p i h = process-own p i h
 
-pub own-word : (p a : ℕ) → outside a ≡ false → ownWord p (wordNumber p a) ≡ true
+own-word : (p a : ℕ) → outside a ≡ false → ownWord p (wordNumber p a) ≡ true
 own-word p a h = eq-eqb (wordNumber p a / wordsPerProcess) p (let k = leb-false bytesPerProcess a h in omega arith)
 
 pub other-thread : (p q i : ℕ) → (p ≡ q → ⊥) → i < threadsPerProcess → ownThread p (threadNumber q i) ≡ false
 other-thread p q i apart h = ne-eqb (processOf (threadNumber q i)) p (λ e. apart (omega arith))
 
-pub other-word : (p q a : ℕ) → (p ≡ q → ⊥) → outside a ≡ false → ownWord p (wordNumber q a) ≡ false
+other-word : (p q a : ℕ) → (p ≡ q → ⊥) → outside a ≡ false → ownWord p (wordNumber q a) ≡ false
 other-word p q a apart h =
     ne-eqb (wordNumber q a / wordsPerProcess) p (λ e. let k = leb-false bytesPerProcess a h in apart (omega arith))
 
@@ -178,18 +187,13 @@ module _ (p : ℕ) where
   view-sound : (s : State) → Sound s → Sound (viewState p s)
   unfolding viewState
   view-sound s g =
-      let l = filter (ownThread p) (arrivals s) in
-      record {
-        records = length-update _ (s .threads) ∙ g .records;
-        stored = ap (λ m. padTo threads noEntry m) (sym (arrivals-with l s));
-        counted = ap length (sym (arrivals-with l s));
-        kept = λ t. cases (ownThread p t)
-            (λ e. rw (getD-own (ownThread p) (running NoneYet) (s .threads) t (running NoneYet) e) (g .kept t))
-            (λ e. rw (getD-other (ownThread p) (running NoneYet) (s .threads) t e) (running-ok (s .clock) NoneYet));
-        exact = λ t. ap (occurs t) (arrivals-with l s) ∙ cases (ownThread p t)
-            (λ e. rw (getD-own (ownThread p) (running NoneYet) (s .threads) t (running NoneYet) e) (occurs-filter (ownThread p) t (arrivals s) e ∙ g .exact t))
-            (λ e. rw (getD-other (ownThread p) (running NoneYet) (s .threads) t e) (occurs-filtered-out (ownThread p) t (arrivals s) e));
-      }
+      sound-with (filter (ownThread p) (arrivals s)) (withThreads (onlyOwn (ownThread p) (running NoneYet) (s .threads)) s) (length-update _ (s .threads) ∙ g .records)
+      (λ t. cases (ownThread p t)
+      (λ e. rw (getD-own (ownThread p) (running NoneYet) (s .threads) t (running NoneYet) e) (g .kept t))
+      (λ e. rw (getD-other (ownThread p) (running NoneYet) (s .threads) t e) (running-ok (s .clock) NoneYet)))
+      (λ t. cases (ownThread p t)
+      (λ e. rw (getD-own (ownThread p) (running NoneYet) (s .threads) t (running NoneYet) e) (occurs-filter (ownThread p) t (arrivals s) e ∙ g .exact t))
+      (λ e. rw (getD-other (ownThread p) (running NoneYet) (s .threads) t e) (occurs-filtered-out (ownThread p) t (arrivals s) e)))
 
   pub view-valid : (w : World) → Valid w → Valid (view p w)
   unfolding view

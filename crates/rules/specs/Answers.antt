@@ -1,5 +1,5 @@
 -- "Answers by number": the paper's numbers, and how its table of answers is read.
-use mathlib.Core.Bool.{Bool, cond}
+use mathlib.Core.Bool.{Bool, true, false, cond}
 use mathlib.Core.List.{List, [], _∷_}
 use Prim.Native.Nat.{ℕ}
 use lib.IntN.{ℤ, pos, negℤ}
@@ -66,6 +66,13 @@ pub record Outcome : Type 0 where
 
 abbrev pub outcome : Answer → World → Outcome
 outcome a w = record { answer = a; world = w }
+
+-- an answer that refuses
+abbrev pub isRefused : Answer → Bool
+isRefused Asleep = false
+isRefused (Count n) = false
+isRefused (Refused x) = true
+isRefused (Waiting v) = false
 
 -- what the code hands back of it; the words it changes where they lie
 abbrev pub answered : Outcome → Answered

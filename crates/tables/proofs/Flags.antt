@@ -1,18 +1,20 @@
 -- Flags that a loop fills, one for each thread or for each of a process; the laws of one flag are those of arrivals.
 use mathlib.Core.Path.{_≡_, refl, sym, _∙_}
-use mathlib.Core.Bool.{Bool, true, false, _&&_, and-false}
+use mathlib.Core.Bool.{Bool, true, false, _&&_, _||_, and-false}
 use mathlib.Core.List.{List}
 use Prim.Native.Nat.{ℕ, _+_, _*_, _≤_, _<_}
 use native.Mathlib.Omega.{arith}
 use lib.ListN.{length, set, replicate, length-set}
 use lib.Dec.{eqb, ltb}
-use borrow.Author.Tests.{eqb-true, eqb-false, eq-eqb, ne-eqb, ltb-true, ltb-false}
+use borrow.Author.Tests.{eq-eqb, ne-eqb, ltb-true, ltb-false}
 use Rattle.lists.proofs.Tests.{cases}
 use Rattle.lists.proofs.Filter.{getD-replicated}
 use Rattle.lists.proofs.Occurs.{lt-of-le-ne}
-pub use Rattle.arrivals.proofs.Flags.{flag-here, flag-there, flags-next}
+pub use Rattle.arrivals.proofs.Flags.{flag-here, flag-there, flags-set, flags-next}
 use Rattle.tables.specs.Sizes.{threadsPerProcess, threads}
-use Rattle.tables.specs.Tables.{processOf}
+use Rattle.tables.specs.declared.State.{State}
+use Rattle.tables.specs.declared.Thread.{Thread}
+use Rattle.tables.specs.Tables.{processOf, threadOf, sharesBit, sleepsAt}
 use Rattle.tables.specs.Steps.{Flags, flagged}
 
 -- A loop that fills the flags has filled those below i.
@@ -53,9 +55,7 @@ process-next f base flags i v g more low is =
     record {
       within = omega arith;
       size = length-set flags (base + i) v ∙ g .size;
-      done = λ t h l. cases (eqb t (base + i))
-          (λ e. rw (eqb-true t (base + i) e) (flag-here flags (base + i) v (omega (arith, g .size)) ∙ is))
-          (λ e. flag-there flags (base + i) t v (eqb-false t (base + i) e) ∙ g .done t h (lt-of-le-ne t (base + i) (omega arith) e));
+      done = λ t h l. flags-set flags f (base + i) v (omega (arith, g .size)) is t (λ e. g .done t h (lt-of-le-ne t (base + i) (omega arith) e));
       under = λ t h. flag-there flags (base + i) t v (λ e. omega arith) ∙ g .under t h;
       over = λ t h. flag-there flags (base + i) t v (λ e. omega arith) ∙ g .over t (omega arith);
     }
@@ -76,3 +76,16 @@ process-all p shares sleeps flags i g end t h =
 -- the thread that the loop comes to is one of the process
 pub process-own : (p i : ℕ) → i < threadsPerProcess → eqb (processOf (threadsPerProcess * p + i)) p ≡ true
 process-own p i h = eq-eqb (processOf (threadsPerProcess * p + i)) p (omega arith)
+
+-- A loop over the threads of a process that marks who sleeps at the word and may be taken.
+abbrev pub hit : ℕ → ℕ → Bool → ℕ → State → ℕ → Bool
+hit p a any m s t = (any || sharesBit m (threadOf s t)) && sleepsAt p a s t
+
+module _ (p a : ℕ) (any : Bool) (m : ℕ) (s : State) (flags : List Bool) (i : ℕ) (g : Process (hit p a any m s) (threadsPerProcess * p) flags i) where
+  pub hits-next : (v : Bool) (r : Thread) → i < threadsPerProcess → threadsPerProcess * p + i < threads → r ≡ threadOf s (threadsPerProcess * p + i)
+      → v ≡ ((any || sharesBit m r) && (r .waiting && eqb (r .uaddr) a))
+      → Process (hit p a any m s) (threadsPerProcess * p) (set flags (threadsPerProcess * p + i) v) (i + 1)
+  hits-next v r more low is new = process-next (hit p a any m s) (threadsPerProcess * p) flags i v g more low (new ∙ rw (is, process-own p i more))
+
+  pub hits-all : threadsPerProcess ≤ i → Flags flags (hit p a any m s)
+  hits-all end = process-all p (λ t. any || sharesBit m (threadOf s t)) (λ t. threadOf s t .waiting && eqb (threadOf s t .uaddr) a) flags i g end

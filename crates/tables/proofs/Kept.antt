@@ -1,23 +1,23 @@
 -- Every change of the tables keeps the table rules.
-use mathlib.Core.Path.{_≡_, refl, sym, ap, _∙_}
+use mathlib.Core.Path.{_≡_, refl, ap, _∙_}
 use mathlib.Core.Bool.{Bool, true, false, not, _&&_}
 use mathlib.Core.List.{List, [], _∷_, _++_}
 use Prim.Native.Nat.{ℕ, _≤_, _<_}
 use native.Mathlib.Omega.{arith}
 use lib.ListN.{length, List·getD-eq-default}
 use lib.Dec.{eqb, leb, ltb}
-use borrow.Author.Tests.{eqb-true, leb-false, ltb-true, ltb-false, lt-ltb}
-use Rattle.lists.specs.Lists.{filter, elem, without, bit, padTo}
-use Rattle.lists.proofs.Tests.{cases, clash, and-intro, and-left, and-right, or-left}
-use Rattle.lists.proofs.Occurs.{occurs, bit-le, bit-true, eqb-refl, elem-occurs, absent-occurs, occurs-append, occurs-filter, occurs-without, occurs-taken-out}
+use borrow.Author.Tests.{leb-false, ltb-true, ltb-false, lt-ltb}
+use Rattle.lists.specs.Lists.{filter, elem, without, bit}
+use Rattle.lists.proofs.Tests.{cases, and-intro, and-left, and-right, or-left}
+use Rattle.lists.proofs.Occurs.{occurs, bit-le, eqb-refl, elem-one, elem-occurs, absent-occurs, occurs-append, occurs-filter, occurs-without, occurs-taken-out}
 use Rattle.tables.specs.declared.State.{State}
 use Rattle.tables.specs.declared.Thread.{Thread}
 use Rattle.tables.specs.declared.LastAnswer.{LastAnswer}
 use Rattle.tables.specs.declared.LastAnswer.the-variants.{NoneYet, TimedOut}
-use Rattle.tables.specs.Sizes.{threads, bytesPerProcess, noEntry}
+use Rattle.tables.specs.Sizes.{threads, bytesPerProcess}
 use Rattle.tables.specs.Tables.{running, threadOf, arrivals, aligned, outside, expired, expiredSleepers, deadlineOk, waitingOk, recordOk, change, ended, movedTo, withArrivals, withThreads, withClock, endSleeps, moveSleeps, fallAsleep}
-use Rattle.tables.proofs.Changes.{length-change, change-other, change-named, arrivals-with}
-use Rattle.tables.proofs.Sound.{Sound, waiting-below, running-ok}
+use Rattle.tables.proofs.Changes.{length-change, change-other, change-named}
+use Rattle.tables.proofs.Sound.{Sound, waiting-below, part-waits, running-ok, sound-with}
 
 -- the records of ts changed by f, and a new arrival list
 unfoldable altered : (Thread → Thread) → List ℕ → List ℕ → State → State
@@ -41,16 +41,11 @@ module _ (f : Thread → Thread) (ts l : List ℕ) (s : State) (size : length (s
       → Sound (altered f ts l s)
   unfolding altered
   sound-altered named other exact =
-      record {
-        records = length-change f ts (s .threads) ∙ size;
-        stored = ap (λ m. padTo threads noEntry m) (sym (arrivals-with l s));
-        counted = ap length (sym (arrivals-with l s));
-        kept = λ t. altered-record (λ r. recordOk (s .clock) r ≡ true) t (λ e h. running-ok (s .clock) NoneYet) (named t) (other t);
-        exact = λ t. ap (occurs t) (arrivals-with l s) ∙ exact t;
-      }
+      sound-with l (withThreads (change f ts (s .threads)) s) (length-change f ts (s .threads) ∙ size)
+      (λ t. altered-record (λ r. recordOk (s .clock) r ≡ true) t (λ e h. running-ok (s .clock) NoneYet) (named t) (other t)) exact
 
 -- sleeps that end
-pub sound-end : (a : LastAnswer) (ts : List ℕ) (s : State) → length (s .threads) ≡ threads
+sound-end : (a : LastAnswer) (ts : List ℕ) (s : State) → length (s .threads) ≡ threads
     → ((t : ℕ) → elem t ts ≡ false → recordOk (s .clock) (threadOf s t) ≡ true)
     → ((t : ℕ) → occurs t (arrivals s) ≡ bit (threadOf s t .waiting))
     → Sound (endSleeps a ts s)
@@ -61,6 +56,9 @@ sound-end a ts s size other exact =
     (λ e h. occurs-taken-out t ts (arrivals s) e)
     (λ e. occurs-taken-out t ts (arrivals s) e)
     (λ e. occurs-without t ts (arrivals s) e ∙ exact t))
+
+pub ending : (a : LastAnswer) (ts : List ℕ) (s : State) → Sound s → Sound (endSleeps a ts s)
+ending a ts s g = sound-end a ts s (g .records) (λ t e. g .kept t) (g .exact)
 
 -- sleeps that move
 waiting-ok : (now : ℕ) (r : Thread) → recordOk now r ≡ true → r .waiting ≡ true → waitingOk now r ≡ true
@@ -86,17 +84,14 @@ pub sound-move : (a : ℕ) (ts : List ℕ) (s : State) → aligned a ≡ true �
 unfolding moveSleeps altered
 sound-move a ts s al near sub g =
     sound-altered (movedTo a) ts (without ts (arrivals s) ++ ts) s (g .records)
-    (λ t e. moved-ok a (s .clock) (threadOf s t) al near (g .kept t) (on t e))
+    (λ t e. moved-ok a (s .clock) (threadOf s t) al near (g .kept t) (part-waits s g ts sub t e))
     (λ t e. g .kept t)
     (λ t. altered-record (movedTo a) ts (without ts (arrivals s) ++ ts) s (g .records) (λ r. occurs t (without ts (arrivals s) ++ ts) ≡ bit (r .waiting)) t
-    (λ e h. absurd (let k = waiting-below s g t (on t e) in omega arith))
+    (λ e h. absurd (let k = waiting-below s g t (part-waits s g ts sub t e) in omega arith))
     (λ e. occurs-append t (without ts (arrivals s)) ts
     ∙ omega (arith, occurs-taken-out t ts (arrivals s) e, elem-occurs t ts e, sub t, g .exact t, bit-le (threadOf s t .waiting)))
     (λ e. occurs-append t (without ts (arrivals s)) ts
     ∙ omega (arith, occurs-without t ts (arrivals s) e, absent-occurs t ts e, g .exact t)))
-  where
-    on : (t : ℕ) → elem t ts ≡ true → threadOf s t .waiting ≡ true
-    on t e = bit-true (threadOf s t .waiting) (omega (arith, elem-occurs t ts e, sub t, g .exact t))
 
 -- a thread that falls asleep
 pub sound-sleep : (f : Thread → Thread) (t : ℕ) (s : State) → t < threads → threadOf s t .waiting ≡ false
@@ -104,15 +99,12 @@ pub sound-sleep : (f : Thread → Thread) (t : ℕ) (s : State) → t < threads 
 unfolding fallAsleep altered
 sound-sleep f t s low off on ok g =
     sound-altered f (t ∷ []) (arrivals s ++ (t ∷ [])) s (g .records)
-    (λ u e. rw (it u e) ok)
+    (λ u e. rw (elem-one u t e) ok)
     (λ u e. g .kept u)
     (λ u. altered-record f (t ∷ []) (arrivals s ++ (t ∷ [])) s (g .records) (λ r. occurs u (arrivals s ++ (t ∷ [])) ≡ bit (r .waiting)) u
-    (λ e h. absurd (let k = it u e in omega arith))
-    (λ e. rw (it u e) (occurs-append t (arrivals s) (t ∷ []) ∙ rw on (omega (arith, g .exact t, ap bit off, ap bit (eqb-refl t)))))
+    (λ e h. absurd (let k = elem-one u t e in omega arith))
+    (λ e. rw (elem-one u t e) (occurs-append t (arrivals s) (t ∷ []) ∙ rw on (omega (arith, g .exact t, ap bit off, ap bit (eqb-refl t)))))
     (λ e. occurs-append u (arrivals s) (t ∷ []) ∙ omega (arith, g .exact u, ap bit (or-left (eqb u t) false e))))
-  where
-    it : (u : ℕ) → elem u (t ∷ []) ≡ true → u ≡ t
-    it u e = eqb-true u t (cases (eqb u t) (λ k. k) (λ k. clash (elem u (t ∷ [])) e (rw k)))
 
 -- what the clock does not end keeps its rule at the new time
 late-ok : (now then : ℕ) (r : Thread) → recordOk then r ≡ true → expired now r ≡ false → recordOk now r ≡ true

@@ -11,14 +11,15 @@ use borrow.Author.Tests.{eqb-true, eq-eqb, leb-true, le-leb, ltb-true, ltb-false
 use Rattle.lists.specs.Lists.{all, padTo, elem, distinct, bit}
 use Rattle.lists.proofs.Tests.{cases, clash, and-intro, and-left, and-right, beq-true, eq-beq}
 use Rattle.lists.proofs.Filter.{all-getD, getD-all, all-replicate, replicate-all, getD-replicated}
-use Rattle.lists.proofs.Occurs.{occurs, bit-le, bit-injective, absent-occurs, occurs-once, occurs-distinct, distinct-occurs, all-elem, elem-all}
+use Rattle.lists.proofs.Occurs.{occurs, bit-le, bit-true, bit-injective, elem-occurs, absent-occurs, occurs-once, occurs-distinct, distinct-occurs, all-elem, elem-all}
 use Rattle.lists.proofs.Count.{everyBelow-intro, everyBelow-at, length-le}
 use Rattle.tables.specs.declared.State.{State}
 use Rattle.tables.specs.declared.Thread.{Thread}
 use Rattle.tables.specs.declared.LastAnswer.{LastAnswer}
 use Rattle.tables.specs.declared.LastAnswer.the-variants.{NoneYet}
 use Rattle.tables.specs.Sizes.{threads, bytesPerProcess, noEntry}
-use Rattle.tables.specs.Tables.{running, threadOf, arrivals, expired, aligned, recordOk, sizesOk, countOk, numbersOk, exactOk, tailOk, recordsOk, tablesOk, fresh}
+use Rattle.tables.specs.Tables.{running, threadOf, arrivals, expired, aligned, recordOk, sizesOk, countOk, numbersOk, exactOk, tailOk, recordsOk, tablesOk, fresh, withArrivals}
+use Rattle.tables.proofs.Changes.{arrivals-with}
 
 abbrev noThread : Thread
 noThread = running NoneYet
@@ -31,6 +32,10 @@ pub record Sound (s : State) : Type 0 where
   pub kept : (t : ℕ) → recordOk (s .clock) (threadOf s t) ≡ true
   pub exact : (t : ℕ) → occurs t (arrivals s) ≡ bit (threadOf s t .waiting)
 
+-- past the records there is none
+beyond : (s : State) → length (s .threads) ≡ threads → (t : ℕ) → threads ≤ t → threadOf s t ≡ noThread
+beyond s n t h = List·getD-eq-default (s .threads) noThread (omega arith)
+
 -- From the facts.
 
 module _ (s : State) (g : Sound s) where
@@ -38,12 +43,7 @@ module _ (s : State) (g : Sound s) where
   pub waiting-below : (t : ℕ) → threadOf s t .waiting ≡ true → t < threads
   waiting-below t e = cases (ltb t threads)
       (λ h. ltb-true t threads h)
-      (λ h. clash (threadOf s t .waiting) e
-      (ap (λ (r : Thread). r .waiting) (List·getD-eq-default (s .threads) noThread (let k = ltb-false t threads h in let n = g .records in omega arith))))
-
-  pub listed-waiting : (t : ℕ) → elem t (arrivals s) ≡ threadOf s t .waiting
-  listed-waiting t =
-      bit-injective _ _ (sym (occurs-once t (arrivals s) (omega (arith, g .exact t, bit-le (threadOf s t .waiting)))) ∙ g .exact t)
+      (λ h. clash (threadOf s t .waiting) e (ap (λ (r : Thread). r .waiting) (beyond s (g .records) t (ltb-false t threads h))))
 
   -- a deadline that the clock has reached belongs to nobody asleep
   pub none-overdue : (t : ℕ) → expired (s .clock) (threadOf s t) ≡ false
@@ -59,6 +59,22 @@ module _ (s : State) (g : Sound s) where
 
   pub once : (t : ℕ) → occurs t (arrivals s) ≤ 1
   once t = omega (arith, g .exact t, bit-le (threadOf s t .waiting))
+
+  pub listed-waiting : (t : ℕ) → elem t (arrivals s) ≡ threadOf s t .waiting
+  listed-waiting t = bit-injective _ _ (sym (occurs-once t (arrivals s) (once t)) ∙ g .exact t)
+
+  pub listed-below : (t : ℕ) → elem t (arrivals s) ≡ true → t < threads
+  listed-below t e = waiting-below t (sym (listed-waiting t) ∙ e)
+
+  pub all-low : all (λ t. ltb t threads) (arrivals s) ≡ true
+  all-low = all-elem (λ t. ltb t threads) (arrivals s) (λ t e. lt-ltb t threads (listed-below t e))
+
+  -- a part of the list: whom it names waits, and so is a thread
+  pub part-waits : (ts : List ℕ) → ((t : ℕ) → occurs t ts ≤ occurs t (arrivals s)) → (t : ℕ) → elem t ts ≡ true → threadOf s t .waiting ≡ true
+  part-waits ts sub t e = bit-true (threadOf s t .waiting) (omega (arith, elem-occurs t ts e, sub t, g .exact t))
+
+  pub part-below : (ts : List ℕ) → ((t : ℕ) → occurs t ts ≤ occurs t (arrivals s)) → (t : ℕ) → elem t ts ≡ true → t < threads
+  part-below ts sub t e = waiting-below t (part-waits ts sub t e)
 
   pub none-above : (t : ℕ) → threads ≤ t → occurs t (arrivals s) ≡ 0
   none-above t h = g .exact t ∙ cases (threadOf s t .waiting) (λ e. absurd (let k = waiting-below t e in omega arith)) (λ e. rw e)
@@ -86,16 +102,19 @@ module _ (s : State) (g : Sound s) where
       ∙ ap (drop (length (arrivals s))) (g .stored)
       ∙ drop-append-seam (arrivals s) (replicate (threads - length (arrivals s)) noEntry)
 
-  entries : length (s .list) ≡ threads
+  pub entries : length (s .list) ≡ threads
   entries = ap length (g .stored) ∙ simp (length-append, length-replicate) (omega (arith, arrivals-fit))
+
+  pub few : s .count ≤ threads
+  few = omega (arith, g .counted, arrivals-fit)
 
   pub sound-tables : tablesOk s ≡ true
   unfolding tablesOk
   sound-tables =
       and-intro (and-intro (and-intro (and-intro (and-intro (and-intro
       (and-intro (eq-eqb (length (s .threads)) threads (g .records)) (eq-eqb (length (s .list)) threads entries))
-      (le-leb (s .count) threads (omega (arith, g .counted, arrivals-fit))))
-      (all-elem (λ t. ltb t threads) (arrivals s) (λ t e. lt-ltb t threads (waiting-below t (sym (listed-waiting t) ∙ e)))))
+      (le-leb (s .count) threads few))
+      all-low)
       (occurs-distinct (arrivals s) once))
       (everyBelow-intro threads (λ t. Bool·beq (elem t (arrivals s)) (threadOf s t .waiting)) (λ t h. eq-beq _ _ (listed-waiting t))))
       (ap (all (λ e. eqb e noEntry)) tail-is ∙ replicate-all noEntry (threads - length (arrivals s))))
@@ -143,9 +162,6 @@ pub running-ok : (now : ℕ) (a : LastAnswer) → recordOk now (running a) ≡ t
 unfolding recordOk
 running-ok now a = refl
 
-beyond : (s : State) → length (s .threads) ≡ threads → (t : ℕ) → threads ≤ t → threadOf s t ≡ noThread
-beyond s n t h = List·getD-eq-default (s .threads) noThread (omega arith)
-
 module _ (s : State) (r : Rules s) where
   arrived : length (arrivals s) ≡ s .count
   arrived = length-take (s .count) (s .list) ∙ omega (arith, r .entries, r .count)
@@ -186,4 +202,16 @@ fresh-sound =
       counted = refl;
       kept = λ t. rw (getD-replicated threads t noThread) (running-ok 0 NoneYet);
       exact = λ t. rw (getD-replicated threads t noThread);
+    }
+
+-- the rules are kept where records that keep them go with the list of those that wait
+pub sound-with : (l : List ℕ) (s : State) → length (s .threads) ≡ threads → ((t : ℕ) → recordOk (s .clock) (threadOf s t) ≡ true)
+    → ((t : ℕ) → occurs t l ≡ bit (threadOf s t .waiting)) → Sound (withArrivals l s)
+sound-with l s size kept exact =
+    record {
+      records = size;
+      stored = ap (padTo threads noEntry) (sym (arrivals-with l s));
+      counted = ap length (sym (arrivals-with l s));
+      kept = kept;
+      exact = λ t. ap (occurs t) (arrivals-with l s) ∙ exact t;
     }

@@ -7,10 +7,10 @@ use native.Mathlib.Omega.{arith}
 use lib.ListN.{length, take, getD, set, replicate, length-append, List·getD-append}
 use lib.Seq.{take-append-seam}
 use lib.Dec.{ltb}
-use borrow.Author.Tests.{ltb-true, lt-ltb}
+use borrow.Author.Tests.{ltb-true}
 use Rattle.lists.specs.Lists.{filter, all, without, padTo, leftOver}
 use Rattle.lists.proofs.Filter.{all-filtered, all-take, filter-true}
-use Rattle.lists.proofs.Occurs.{all-elem, elem-all, elem-getD}
+use Rattle.lists.proofs.Occurs.{elem-all, elem-getD, filter-agree}
 use Rattle.lists.proofs.Loops.{length-snoc, padTo-snoc, without-taken, length-parts}
 use Rattle.tables.specs.declared.State.{State}
 use Rattle.tables.specs.declared.Thread.{Thread}
@@ -20,9 +20,9 @@ use Rattle.tables.specs.declared.Change.the-variants.{End, MoveTo}
 use Rattle.arrivals.specs.declared.Parts.{Parts}
 use Rattle.tables.specs.Sizes.{threads, noEntry}
 use Rattle.tables.specs.Tables.{running, threadOf, arrivals, change, withThreads, ended, endSleeps, moveSleeps, fallAsleep, asleepAt}
-use Rattle.tables.specs.Steps.{changedBy, Numbers, splitOf, endFirst, moveFirst}
+use Rattle.tables.specs.Steps.{changedBy, Numbers, Flags, flagged, splitOf, endFirst, moveFirst}
 use Rattle.tables.proofs.Changes.{change-none, change-next}
-use Rattle.tables.proofs.Sound.{Sound, waiting-below, listed-waiting, once, arrivals-fit}
+use Rattle.tables.proofs.Sound.{Sound, listed-below, all-low, once, arrivals-fit}
 
 -- a list of thread numbers, stored
 stored-numbers : (ts : List ℕ) → length ts ≤ threads → all (λ t. ltb t threads) ts ≡ true → Numbers (padTo threads noEntry ts) (length ts)
@@ -34,24 +34,25 @@ stored-numbers ts fits low =
     }
 
 module _ (s : State) (g : Sound s) where
-  arrivals-low : all (λ t. ltb t threads) (arrivals s) ≡ true
-  arrivals-low = all-elem (λ t. ltb t threads) (arrivals s) (λ t e. lt-ltb t threads (waiting-below s g t (sym (listed-waiting s g t) ∙ e)))
+  -- flags that say which listed threads pass
+  pub flagged-listed : (flags : List Bool) (f : ℕ → Bool) → Flags flags f → filter (flagged flags) (arrivals s) ≡ filter f (arrivals s)
+  flagged-listed flags f h = filter-agree (flagged flags) f (arrivals s) (λ t e. h t (listed-below s g t e))
 
   pub list-numbers : Numbers (s .list) (s .count)
-  list-numbers = subst₂ Numbers (sym (g .stored)) (sym (g .counted)) (stored-numbers (arrivals s) (arrivals-fit s g) arrivals-low)
+  list-numbers = subst₂ Numbers (sym (g .stored)) (sym (g .counted)) (stored-numbers (arrivals s) (arrivals-fit s g) (all-low s g))
 
   -- whom a split takes
   module _ (f : ℕ → Bool) (cap : ℕ) where
     abbrev taken : List ℕ
     taken = take cap (filter f (arrivals s))
 
-    taken-fit : length taken ≤ threads
+    pub taken-fit : length taken ≤ threads
     taken-fit = omega (arith, length-parts f (arrivals s) cap, arrivals-fit s g)
 
     pub taken-numbers : (parts : Parts) → parts ≡ splitOf f cap (arrivals s) → Numbers (parts .taken) (parts .n)
     unfolding splitOf
     taken-numbers parts is =
-        rw is (stored-numbers taken taken-fit (all-take (λ t. ltb t threads) cap _ (all-filtered (λ t. ltb t threads) f (arrivals s) arrivals-low)))
+        rw is (stored-numbers taken taken-fit (all-take (λ t. ltb t threads) cap _ (all-filtered (λ t. ltb t threads) f (arrivals s) (all-low s g))))
 
     -- what is left and what is taken, put back
     seam : (l : List ℕ) → take (length l) (padTo threads noEntry l) ≡ l

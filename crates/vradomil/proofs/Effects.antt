@@ -2,7 +2,7 @@
 use mathlib.Core.Path.{_≡_, ap, subst, _∙_}
 use mathlib.Core.Bool.{Bool, cond}
 use mathlib.Core.List.{List, [], _∷_}
-use Prim.Native.Nat.{ℕ, _+_, _≤_}
+use Prim.Native.Nat.{ℕ, _+_, _-_, _≤_, min}
 use native.Mathlib.Omega.{arith}
 use lib.IntN.{pos}
 use Rattle.lists.specs.Lists.{filter}
@@ -11,40 +11,50 @@ use Rattle.tables.specs.declared.LastAnswer.{LastAnswer}
 use Rattle.tables.specs.declared.LastAnswer.the-variants.{Woken}
 use Rattle.rules.specs.declared.event.Command.{Command}
 use Rattle.rules.specs.declared.event.Call.{Call}
-use Rattle.tables.specs.Sizes.{threads}
-use Rattle.tables.specs.Tables.{World, world, arrivals, wordAt}
+use Rattle.rules.specs.declared.event.Uses.{Uses}
+use Rattle.tables.specs.Sizes.{threads, timeLimit, matchAny}
+use Rattle.tables.specs.Tables.{World, world, threadNumber, arrivals, wordAt, fallAsleep, asleepAt}
 use Rattle.tables.specs.Steps.{endFirst, moveFirst}
 use Rattle.rules.specs.Answers.{Outcome, answered}
-use Rattle.rules.specs.Commands.{uses}
+use Rattle.rules.specs.Commands.{commandOf, uses}
 use Rattle.rules.specs.WakeOp.{compares}
-use Rattle.rules.specs.Calls.{matches, secondCap, candidates, wake, requeue, wakeOp}
-use Rattle.tables.proofs.Sound.{Sound, sound-tables}
+use Rattle.rules.specs.Calls.{matches, secondCap, timeoutGiven, candidates, wait, wake, requeue, wakeOp}
+use Rattle.tables.proofs.Sound.{Sound, tables-sound, sound-tables}
 use Rattle.rules.specs.declared.answer.Answered.{Answered}
 use Rattle.effects.proofs.Effects.{end-sound, end-few, move-few, wakes, requeues, releases-both}
-use Rattle.changes.specs.Change.{Stands, TakenBytes}
+use Rattle.changes.specs.Change.{Stands, TakenBytes, WritesTaken}
 use Rattle.vradomil.specs.Host.{Done, Leaves}
 use Rattle.vradomil.proofs.Steps.{took-done, done-by}
 
 -- what the by-value commands leave
-by-answered : (o : Outcome) (p : Answered) (n : ℕ) (after : List ℕ) → p ≡ answered o → Done (p .answer) (p .state) n after → Leaves o n after
-by-answered o p n after is h = done-by _ _ _ _ n after (ap (λ (q : Answered). q .answer) is) (ap (λ (q : Answered). q .state) is) h
-
 pub answered-leaves : (o : Outcome) (a : Answered) (n : ℕ) (after : List ℕ) → a ≡ answered o → Done (a .answer) (a .state) n after → Leaves o n after
 answered-leaves o a n after is h = done-by _ _ _ _ n after (ap (λ (q : Answered). q .answer) is) (ap (λ (q : Answered). q .state) is) h
 
--- the tables between two changes
-pub stands-ended : (a : LastAnswer) (f : ℕ → Bool) (cap : ℕ) (s : State) (n : ℕ) (b : List ℕ) → Sound s → TakenBytes (endFirst a f cap s) n b
-    → Stands (endFirst a f cap s .state) b
-stands-ended a f cap s n b g t = record { bytes = t .bytes; sound = sound-tables (endFirst a f cap s .state) (end-sound a f cap s g) }
-
-pub ended-few : (a : LastAnswer) (f : ℕ → Bool) (cap : ℕ) (s : State) (n : ℕ) (b : List ℕ) → Sound s → TakenBytes (endFirst a f cap s) n b → n ≤ threads
+-- a count of sleeps that ended is small
+ended-few : (a : LastAnswer) (f : ℕ → Bool) (cap : ℕ) (s : State) (n : ℕ) (b : List ℕ) → Sound s → TakenBytes (endFirst a f cap s) n b → n ≤ threads
 ended-few a f cap s n b g t = omega (arith, t .number, end-few a f cap s g)
+
+-- Sleeps that ended on the bytes of tables: how many, the bytes, and that these stand for tables that keep the rules again.
+pub record Ended (a : LastAnswer) (f : ℕ → Bool) (cap : ℕ) (s : State) (n : ℕ) (b : List ℕ) : Type 0 where
+  pub took : TakenBytes (endFirst a f cap s) n b
+  pub left : Stands (endFirst a f cap s .state) b
+  pub few : n ≤ threads
+
+pub ended : {s : State} {b : List ℕ} → Stands s b → (a : LastAnswer) (f : ℕ → Bool) (cap n : ℕ) (after : List ℕ) → WritesTaken (endFirst a f cap) b n after → Ended a f cap s n after
+ended {s} {b} h a f cap n after takes =
+    let g = tables-sound s (h .sound) in
+    let took = takes s h in
+    record {
+      took = took;
+      left = record { bytes = took .bytes; sound = sound-tables (endFirst a f cap s .state) (end-sound a f cap s g) };
+      few = ended-few a f cap s n after g took;
+    }
 
 module _ (k : Command) (c : Call) (s : State) (g : Sound s) (f : ℕ → Bool)
     (is : filter f (arrivals s) ≡ candidates (matches k c) (c .process) (c .uaddr) s) where
   pub wake-done : (n : ℕ) (after : List ℕ) → TakenBytes (endFirst Woken f (c .val) s) n after → Leaves (wake k c (world s [])) n after
   wake-done n after t =
-      by-answered (wake k c (world s [])) _ n after (wakes k c s g f is [])
+      answered-leaves (wake k c (world s [])) _ n after (wakes k c s g f is [])
       (took-done (endFirst Woken f (c .val) s) n after t (omega (arith, ended-few Woken f (c .val) s n after g t)))
 
   -- counts of two changes
@@ -61,12 +71,19 @@ module _ (k : Command) (c : Call) (s : State) (g : Sound s) (f : ℕ → Bool)
   requeue-done n m more cap b after t limit u counts less =
       let v = subst (λ q. TakenBytes (moveFirst (c .uaddr2) f q (endFirst Woken f (c .val) s .state)) m after) limit u in
       let few = moved-few n m b after t cap u in
-      by-answered (requeue k c (world s [])) _ (n + more) after (requeues k c s g f is [])
+      answered-leaves (requeue k c (world s [])) _ (n + more) after (requeues k c s g f is [])
       (record {
         number = λ i. pos (t .number i + (counts ∙ ap (λ q. cond (uses k .compare) q 0) (v .number)) i) ∷ [];
         small = omega (arith, few);
         bytes = v .bytes;
       })
+
+-- the tables that a wait leaves
+pub asleep-is : (c : Call) (s : State) (u : Uses) (t m : ℕ) (timed : Bool) (now due : ℕ) → u ≡ uses (commandOf (c .op)) → t ≡ threadNumber (c .process) (c .index)
+    → m ≡ cond (u .mask) (c .val3) matchAny → timed ≡ timeoutGiven c → now ≡ s .clock → due ≡ cond (u .mask) (c .timeout) (min (now + c .timeout) (timeLimit - 1))
+    → fallAsleep (asleepAt (c .uaddr) m timed due) t s ≡ wait (commandOf (c .op)) c (world s []) .world .state
+unfolding wait
+asleep-is c s u t m timed now due uses-are at mask given clock dueAt = rw (at, dueAt, mask, given, clock, uses-are)
 
 -- WAKE_OP
 module _ (k : Command) (c : Call) (w : World) (g : Sound (w .state)) (f h : ℕ → Bool)
@@ -80,5 +97,5 @@ module _ (k : Command) (c : Call) (w : World) (g : Sound (w .state)) (f h : ℕ 
       let v = subst (λ q. TakenBytes (endFirst Woken h q (one .state)) m after) limit u in
       let few = ended-few Woken f (c .val) (w .state) n b g t in
       let more = ended-few Woken h cap (one .state) m after (end-sound Woken f (c .val) (w .state) g) u in
-      by-answered (wakeOp k c w) _ (n + m) after (releases-both k c w g f h is is2)
+      answered-leaves (wakeOp k c w) _ (n + m) after (releases-both k c w g f h is is2)
       (record { number = λ i. pos (t .number i + v .number i) ∷ []; small = omega (arith, few, more); bytes = v .bytes })

@@ -22,10 +22,10 @@ no-words : (n : ℕ) (m : List ℕ) → 0 < n → (length m ≡ wordBytes * n �
 unfolding wordsOf
 no-words n m some h = rw (ne-eqb (length m) (wordBytes * n) h) (ne-eqb 0 n (λ e. omega arith))
 
-pub wrong-words : (b m : List ℕ) → (length m ≡ memorySize → ⊥) → wrongMemory (seen b m) ≡ true
+wrong-words : (b m : List ℕ) → (length m ≡ memorySize → ⊥) → wrongMemory (seen b m) ≡ true
 wrong-words b m h = ap not (no-words memoryWords m (omega arith) h)
 
-pub right-words : (b m : List ℕ) → length m ≡ memorySize → wrongMemory (seen b m) ≡ false
+right-words : (b m : List ℕ) → length m ≡ memorySize → wrongMemory (seen b m) ≡ false
 right-words b m h = ap not (eq-eqb (length (wordsAt m)) memoryWords (words-length memoryWords m h))
 
 module _ (b m : List ℕ) where

@@ -1,7 +1,6 @@
 pub mod Steps
 pub mod Memory
 pub mod FirstRows
-pub mod Waits
 pub mod Effects
 pub mod Laying
 pub mod Theorems

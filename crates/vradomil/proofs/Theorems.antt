@@ -9,7 +9,7 @@ use lib.Count.{ones, trailingZeros, ones-le, trailing-le}
 use lib.ListN.{length, getD}
 use Rattle.lists.proofs.Tests.{cases}
 use Rattle.tables.specs.declared.State.{State}
-use Rattle.tables.specs.Sizes.{threadsPerProcess, wordBytes, memoryWords}
+use Rattle.tables.specs.Sizes.{threadsPerProcess, memoryWords, wordLimit}
 use Rattle.tables.specs.Tables.{tablesOk}
 use Rattle.rules.specs.Calls.{noProcess}
 use Rattle.rules.specs.Events.{waitingSet, panelOf, panel}
@@ -39,5 +39,5 @@ panel-unpacks p s = parts (cond (noProcess p || not (tablesOk s)) 0 (waitingSet 
     small : cond (noProcess p || not (tablesOk s)) 0 (waitingSet p s) < 2 ^ threadsPerProcess
     small = cases (noProcess p || not (tablesOk s)) (λ e. rw e (omega arith)) (λ e. rw e (bits-small threadsPerProcess _))
 
-pub words-stand : (ws : List ℕ) → length ws ≡ memoryWords → ((i : ℕ) → i < memoryWords → getD ws i 0 < 256 ^ wordBytes) → wordsAt (wordsBytes ws) ≡ ws
+pub words-stand : (ws : List ℕ) → length ws ≡ memoryWords → ((i : ℕ) → i < memoryWords → getD ws i 0 < wordLimit) → wordsAt (wordsBytes ws) ≡ ws
 words-stand ws long fit = words-back memoryWords ws long fit

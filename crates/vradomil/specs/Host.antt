@@ -1,6 +1,6 @@
 -- What a C host gets: the rules' answers as numbers, and every byte of tables and words afterwards.
 use mathlib.Core.Path.{_≡_}
-use mathlib.Core.Bool.{Bool, true, false, cond}
+use mathlib.Core.Bool.{cond}
 use mathlib.Core.List.{List, [], _∷_}
 use Prim.Native.Nat.{ℕ, _+_, _*_, _≤_}
 use lib.IntN.{ℤ, pos}
@@ -11,13 +11,13 @@ use Rattle.rules.specs.declared.event.Call.{Call}
 use Rattle.rules.specs.declared.event.Event.{Event}
 use Rattle.rules.specs.declared.event.Event.the-variants.{Call as CallEvent}
 use Rattle.rules.specs.declared.answer.Answer.{Answer}
-use Rattle.rules.specs.declared.answer.Answer.the-variants.{Asleep, Count, Refused, Waiting}
+use Rattle.rules.specs.declared.answer.Answer.the-variants.{Count, Refused}
 use Rattle.rules.specs.declared.answer.Verdict.{Verdict}
 use Rattle.rules.specs.declared.answer.Verdict.the-variants.{Pass}
 use Rattle.rules.specs.declared.answer.Errno.the-variants.{ENXIO, EBADF}
 use Rattle.rules.specs.declared.answer.Panel.{Panel}
 use Rattle.tables.specs.Tables.{World, world, fresh}
-use Rattle.rules.specs.Answers.{_when_, first, Outcome, answerNumbers, asleepNumber}
+use Rattle.rules.specs.Answers.{_when_, first, Outcome, isRefused, answerNumbers, asleepNumber}
 use Rattle.rules.specs.Calls.{wrongMemory, brokenTables}
 use Rattle.rules.specs.Events.{step, refusals}
 use Rattle.effects.specs.Ready.{Ready}
@@ -27,12 +27,6 @@ use Rattle.layout.specs.Check.{Held}
 -- the tables and the words that the bytes stand for
 abbrev pub seen : List ℕ → List ℕ → World
 seen tables words = world (tablesAt tables) (wordsAt words)
-
-abbrev pub isRefused : Answer → Bool
-isRefused Asleep = false
-isRefused (Count n) = false
-isRefused (Refused x) = true
-isRefused (Waiting v) = false
 
 -- a refusal leaves every byte; else they are the bytes of the tables and of the words that the rules leave
 abbrev pub tablesLeft : Outcome → List ℕ → List ℕ

@@ -1,11 +1,11 @@
 use borrow.Author.Needs.{needs}
-use mathlib.Core.Path.{_≡_, sym, ap, _∙_}
+use mathlib.Core.Path.{sym, ap, _∙_}
 use Rattle.rules.specs.declared.event.Uses.{Uses}
 use Rattle.rules.specs.Answers.{Outcome, answered}
 use Rattle.rules.specs.Commands.{commandOf}
-use Rattle.rules.specs.Calls.{wait, wake, requeue, wakeOp, callEffect}
+use Rattle.rules.specs.Calls.{wait, wake, requeue}
 use Rattle.tables.specs.Tables.{world}
-use Rattle.effects.proofs.Effects.{by-uses}
+use Rattle.effects.proofs.Effects.{is-wait, is-requeue, is-wakeOp, is-wake}
 use Rattle.effects.proofs.perform.Statement.{statement}
 use Rattle.effects.proofs.perform.Tie as tie
 
@@ -22,9 +22,7 @@ returns c =
     let g = m .before .before in
     let k = commandOf (g .args .c .op) in
     let w = world (g .args .s) (g .args .words .now) in
-    let u = m .uses-by .ensures in
-    let is : callEffect k (g .args .c) w ≡ wait k (g .args .c) w =
-    by-uses k (g .args .c) w (g .pre .known) ∙ rw (sym (ap (λ (v : Uses). v .deadline) u) ∙ c .before .if1 .taken) in
+    let is = is-wait k (g .args .c) w (g .pre .known) (m .uses-by .result) (m .uses-by .ensures) (c .before .if1 .taken) in
     (c .wait .ensures ∙ ap answered (sym is), ap (λ (o : Outcome). o .world .words) (sym is))
 
 requeue-requires : tie.Need-requeue-requires
@@ -37,9 +35,7 @@ returns-2 c =
     let g = m .before .before in
     let k = commandOf (g .args .c .op) in
     let w = world (g .args .s) (g .args .words .now) in
-    let u = m .uses-by .ensures in
-    let is : callEffect k (g .args .c) w ≡ requeue k (g .args .c) w =
-    by-uses k (g .args .c) w (g .pre .known) ∙ rw (sym (ap (λ (v : Uses). v .deadline) u) ∙ c .before .before .if1 .left, sym (ap (λ (v : Uses). v .moves) u) ∙ c .before .if2 .taken) in
+    let is = is-requeue k (g .args .c) w (g .pre .known) (m .uses-by .result) (m .uses-by .ensures) (c .before .before .if1 .left) (c .before .if2 .taken) in
     (c .requeue .ensures ∙ ap answered (sym is), ap (λ (o : Outcome). o .world .words) (sym is))
 
 wake-op-requires : tie.Need-wake-op-requires
@@ -57,9 +53,7 @@ returns-3 c =
     let g = m .before .before in
     let k = commandOf (g .args .c .op) in
     let w = world (g .args .s) (g .args .words .now) in
-    let u = m .uses-by .ensures in
-    let is : callEffect k (g .args .c) w ≡ wakeOp k (g .args .c) w =
-    by-uses k (g .args .c) w (g .pre .known) ∙ rw (sym (ap (λ (v : Uses). v .deadline) u) ∙ c .before .before .before .before .before .before .if1 .left, sym (ap (λ (v : Uses). v .moves) u) ∙ c .before .before .before .before .before .if2 .left, sym (ap (λ (v : Uses). v .second) u) ∙ c .before .before .before .before .if3 .taken) in
+    let is = is-wakeOp k (g .args .c) w (g .pre .known) (m .uses-by .result) (m .uses-by .ensures) (c .before .before .before .before .before .before .if1 .left) (c .before .before .before .before .before .if2 .left) (c .before .before .before .before .if3 .taken) in
     (c .before .before .wake-op .ensures .0 ∙ ap answered (sym is), c .before .before .wake-op .ensures .1 ∙ ap (λ (o : Outcome). o .world .words) (sym is))
 
 wake-requires : tie.Need-wake-requires
@@ -72,9 +66,7 @@ returns-4 c =
     let g = m .before .before in
     let k = commandOf (g .args .c .op) in
     let w = world (g .args .s) (g .args .words .now) in
-    let u = m .uses-by .ensures in
-    let is : callEffect k (g .args .c) w ≡ wake k (g .args .c) w =
-    by-uses k (g .args .c) w (g .pre .known) ∙ rw (sym (ap (λ (v : Uses). v .deadline) u) ∙ c .before .before .before .if1 .left, sym (ap (λ (v : Uses). v .moves) u) ∙ c .before .before .if2 .left, sym (ap (λ (v : Uses). v .second) u) ∙ c .before .if3 .left) in
+    let is = is-wake k (g .args .c) w (g .pre .known) (m .uses-by .result) (m .uses-by .ensures) (c .before .before .before .if1 .left) (c .before .before .if2 .left) (c .before .if3 .left) in
     (c .wake .ensures ∙ ap answered (sym is), ap (λ (o : Outcome). o .world .words) (sym is))
 
 pub perform-spec : {M : Type 1} → statement M

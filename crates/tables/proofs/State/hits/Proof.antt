@@ -1,24 +1,11 @@
-use mathlib.Core.Path.{_∙_}
-use mathlib.Core.Bool.{Bool, _&&_, _||_}
-use Prim.Native.Nat.{ℕ, _+_, _*_, _-_}
+use mathlib.Core.Path.{refl}
+use Prim.Native.Nat.{_-_}
 use native.Mathlib.Omega.{arith}
 use borrow.Author.Needs.{needs}
-use lib.Dec.{eqb}
-use Rattle.tables.specs.declared.State.{State}
 use Rattle.tables.specs.Sizes.{threadsPerProcess}
-use Rattle.tables.specs.Tables.{threadOf, sharesBit, sleepsAt}
-use Rattle.tables.proofs.Flags.{Process, process-start, process-next, process-all, process-own}
+use Rattle.tables.proofs.Flags.{Process, process-start, hit, hits-next, hits-all}
 use Rattle.tables.proofs.State.hits.Statement.{statement}
 use Rattle.tables.proofs.State.hits.Tie as tie
-
-abbrev hit : ℕ → ℕ → Bool → ℕ → State → ℕ → Bool
-hit process uaddr any bitset s t = (any || sharesBit bitset (threadOf s t)) && sleepsAt process uaddr s t
-
--- what is tested of the thread that the loop comes to
-abbrev passes : ℕ → ℕ → ℕ → Bool → ℕ → State → Bool
-passes process i uaddr any bitset s =
-    let r = threadOf s (threadsPerProcess * process + i) in
-    (any || sharesBit bitset r) && (r .waiting && eqb (r .uaddr) uaddr)
 
 abbrev Inv-loop : tie.InvT-loop
 Inv-loop process uaddr any bitset self flags₀ base i₀ flags i = Process (hit process uaddr any bitset self) base flags i
@@ -62,15 +49,12 @@ loop-again c =
     let g = k .before in
     let p = g .args .process in
     let i = k .loop .i in
-    process-next (hit p (g .args .uaddr) (g .args .any) (g .args .bitset) (g .args .t1)) (threadsPerProcess * p) (k .loop .flags) i (c .is-hit .result)
-    (k .loop .inv) (omega arith) (omega arith) (_∙_ {b = passes p i (g .args .uaddr) (g .args .any) (g .args .bitset) (g .args .t1)} (c .is-hit .ensures) (rw (process-own p i (omega arith))))
+    hits-next p (g .args .uaddr) (g .args .any) (g .args .bitset) (g .args .t1) (k .loop .flags) i (k .loop .inv) (c .is-hit .result) _ (omega arith) (omega arith) refl (c .is-hit .ensures)
 
 returns : tie.Need-returns Inv-loop μ-loop
 returns c =
     let g = c .before .before in
-    let s = g .args .t1 in
-    process-all (g .args .process) (λ t. g .args .any || sharesBit (g .args .bitset) (threadOf s t)) (λ t. threadOf s t .waiting && eqb (threadOf s t .uaddr) (g .args .uaddr))
-    (c .before .loop .flags) (c .before .loop .i) (c .before .loop .inv) (omega arith)
+    hits-all (g .args .process) (g .args .uaddr) (g .args .any) (g .args .bitset) (g .args .t1) (c .before .loop .flags) (c .before .loop .i) (c .before .loop .inv) (omega arith)
 
 pub hits-spec : {M : Type 1} → statement M
 hits-spec =

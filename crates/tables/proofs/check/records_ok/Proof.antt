@@ -1,15 +1,13 @@
-use mathlib.Core.Path.{_≡_, refl, _∙_}
-use mathlib.Core.Bool.{Bool, true, false, _&&_, Bool·beq}
+use mathlib.Core.Path.{_≡_, ap, _∙_}
+use mathlib.Core.Bool.{Bool, _&&_, Bool·beq, and-assoc, and-comm}
 use mathlib.Core.List.{List}
-use Prim.Native.Nat.{ℕ, _+_, _-_, _≤_, _<_}
+use Prim.Native.Nat.{ℕ, _-_}
 use native.Mathlib.Omega.{arith}
 use borrow.Author.Needs.{needs}
-use lib.ListN.{length, take, length-map}
-use lib.Seq.{take-all}
+use lib.ListN.{length, length-map}
 use Rattle.lists.specs.Lists.{all, everyBelow}
-use Rattle.lists.proofs.Tests.{cases}
-use Rattle.lists.proofs.Count.{everyBelow-next}
-use Rattle.lists.proofs.Loops.{take-next, all-snoc}
+use Rattle.lists.proofs.Count.{Tested, tested-start, tested-next, tested-all, everyBelow-and}
+use Rattle.lists.proofs.Tabulate.{all-below}
 use Rattle.tables.specs.declared.State.{State}
 use Rattle.tables.specs.declared.LastAnswer.the-variants.{NoneYet}
 use Rattle.tables.specs.Sizes.{threads}
@@ -22,12 +20,11 @@ use Rattle.tables.proofs.check.records_ok.Tie as tie
 abbrev agrees : State → List Bool → ℕ → Bool
 agrees s marks t = Bool·beq (flagged marks t) (threadOf s t .waiting)
 
-record Going (s : State) (marks : List Bool) (ok : Bool) (i : ℕ) : Type 0 where
-  within : i ≤ threads
-  done : ok ≡ (everyBelow i (agrees s marks) && all (recordOk (s .clock)) (take i (s .threads)))
+abbrev good : State → List Bool → ℕ → Bool
+good s marks t = recordOk (s .clock) (threadOf s t) && agrees s marks t
 
 abbrev Inv-loop : tie.InvT-loop
-Inv-loop s marks now ok₀ i₀ ok i = Going s marks ok i
+Inv-loop s marks now ok₀ i₀ ok i = Tested threads (good s marks) ok i
 
 abbrev μ-loop : tie.MeasureT-loop
 μ-loop s marks now ok₀ i₀ ok i = threads - i
@@ -36,8 +33,7 @@ long : (c : tie.Start Inv-loop μ-loop) → length (c .args .t1 .threads) ≡ th
 long c = simp length-map at (c .good .0 .1 .1 .1 .0 .1 .0 .1)
 
 loop-holds : tie.Need-loop-holds Inv-loop μ-loop
-unfolding everyBelow
-loop-holds c = record { within = omega arith; done = refl }
+loop-holds c = tested-start threads _
 
 mul-t : tie.Need-mul-t Inv-loop μ-loop
 mul-t c = omega arith
@@ -57,40 +53,21 @@ add-i c = omega arith
 loop-less : tie.Need-loop-less Inv-loop μ-loop
 loop-less c = omega arith
 
-regroup : (a b g m : Bool) → (a && b && g && m) ≡ (a && m && (b && g))
-regroup true true true m = cases m (λ e. rw e) (λ e. rw e)
-regroup true true false m = cases m (λ e. rw e) (λ e. rw e)
-regroup true false g m = cases m (λ e. rw e) (λ e. rw e)
-regroup false b g m = refl
-
--- one turn
-turn : (s : State) (marks : List Bool) (ok good : Bool) (i : ℕ) → Going s marks ok i → i < threads → length (s .threads) ≡ threads
-    → good ≡ recordOk (s .clock) (threadOf s i) → Going s marks (ok && good && agrees s marks i) (i + 1)
-turn s marks ok good i g more size is =
-    record {
-      within = omega arith;
-      done = cc (
-        g .done,
-        is,
-        regroup (everyBelow i (agrees s marks)) (all (recordOk (s .clock)) (take i (s .threads))) (recordOk (s .clock) (threadOf s i)) (agrees s marks i),
-        everyBelow-next i (agrees s marks),
-        take-next (s .threads) i (running NoneYet) (omega arith),
-        all-snoc (recordOk (s .clock)) (take i (s .threads)) (threadOf s i),
-      );
-    }
-
 loop-again : tie.Need-loop-again Inv-loop μ-loop
 loop-again c =
     let k = c .before .before .before .before in
     let g = k .before in
-    turn (g .args .t1) (g .args .t2) (k .loop .ok) (c .before .record-ok .result) (k .loop .i) (k .loop .inv) (omega arith) (long g) (c .before .record-ok .ensures)
+    let s = g .args .t1 in
+    rw and-assoc (tested-next threads (good s (g .args .t2)) (k .loop .ok) _ (k .loop .i) (k .loop .inv) (omega arith) (ap (_&& agrees s (g .args .t2) (k .loop .i)) (c .before .record-ok .ensures)))
 
 returns : tie.Need-returns Inv-loop μ-loop
 returns c =
     let g = c .before .before in
-    let i : c .before .loop .i ≡ threads = omega arith in
-    let whole : take threads (g .args .t1 .threads) ≡ g .args .t1 .threads = take-all threads (g .args .t1 .threads) (omega (arith, long g)) in
-    c .before .loop .inv .done ∙ rw (i, whole)
+    let s = g .args .t1 in
+    let records : ℕ → Bool = λ t. recordOk (s .clock) (threadOf s t) in
+    let whole : all (recordOk (s .clock)) (s .threads) ≡ everyBelow threads records = all-below (recordOk (s .clock)) (s .threads) (running NoneYet) ∙ rw (long g) in
+    tested-all threads (good s (g .args .t2)) (c .before .loop .ok) (c .before .loop .i) (c .before .loop .inv) (omega arith)
+    ∙ everyBelow-and threads records (agrees s (g .args .t2)) ∙ and-comm (everyBelow threads records) (everyBelow threads (agrees s (g .args .t2))) ∙ rw whole
 
 pub records-ok-spec : {M : Type 1} → statement M
 records-ok-spec =

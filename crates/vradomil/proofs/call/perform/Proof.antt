@@ -6,9 +6,9 @@ use Rattle.rules.specs.declared.event.Uses.{Uses}
 use Rattle.tables.specs.Sizes.{memoryWords}
 use Rattle.rules.specs.Answers.{Outcome}
 use Rattle.rules.specs.Commands.{commandOf}
-use Rattle.rules.specs.Calls.{wait, wake, requeue, wakeOp, callEffect}
+use Rattle.rules.specs.Calls.{wait, wake, requeue}
 use Rattle.tables.specs.Tables.{world}
-use Rattle.effects.proofs.Effects.{by-uses}
+use Rattle.effects.proofs.Effects.{is-wait, is-requeue, is-wakeOp, is-wake}
 use Rattle.layout.specs.Layout.{stateAt, wordsAt, wordsBytes}
 use Rattle.layout.proofs.Exact.{words-exact}
 use Rattle.vradomil.proofs.Steps.{leaves-by}
@@ -38,9 +38,7 @@ returns c =
     let g = m .before .before .before in
     let k = commandOf (g .args .c .op) in
     let w = world (stateAt (now (g .args .b))) (wordsAt (now (g .args .words))) in
-    let u = m .uses-by .ensures in
-    let is : callEffect k (g .args .c) w ≡ wait k (g .args .c) w =
-    by-uses k (g .args .c) w (g .pre .1 .0 .known) ∙ rw (sym (ap (λ (v : Uses). v .deadline) u) ∙ c .before .before .before .before .if1 .taken) in
+    let is = is-wait k (g .args .c) w (g .pre .1 .0 .known) (m .uses-by .result) (m .uses-by .ensures) (c .before .before .before .before .if1 .taken) in
     (leaves-by _ _ _ _ (sym is) (c .before .before .wait .ensures), unchanged m ∙ ap (λ (o : Outcome). wordsBytes (o .world .words)) (sym is))
 
 requeue-requires : tie.Need-requeue-requires
@@ -56,9 +54,7 @@ returns-2 c =
     let g = m .before .before .before in
     let k = commandOf (g .args .c .op) in
     let w = world (stateAt (now (g .args .b))) (wordsAt (now (g .args .words))) in
-    let u = m .uses-by .ensures in
-    let is : callEffect k (g .args .c) w ≡ requeue k (g .args .c) w =
-    by-uses k (g .args .c) w (g .pre .1 .0 .known) ∙ rw (sym (ap (λ (v : Uses). v .deadline) u) ∙ c .before .before .before .before .before .if1 .left, sym (ap (λ (v : Uses). v .moves) u) ∙ c .before .before .before .before .if2 .taken) in
+    let is = is-requeue k (g .args .c) w (g .pre .1 .0 .known) (m .uses-by .result) (m .uses-by .ensures) (c .before .before .before .before .before .if1 .left) (c .before .before .before .before .if2 .taken) in
     (leaves-by _ _ _ _ (sym is) (c .before .before .requeue .ensures), unchanged m ∙ ap (λ (o : Outcome). wordsBytes (o .world .words)) (sym is))
 
 wake-op-requires : tie.Need-wake-op-requires
@@ -79,9 +75,7 @@ returns-3 c =
     let g = m .before .before .before in
     let k = commandOf (g .args .c .op) in
     let w = world (stateAt (now (g .args .b))) (wordsAt (now (g .args .words))) in
-    let u = m .uses-by .ensures in
-    let is : callEffect k (g .args .c) w ≡ wakeOp k (g .args .c) w =
-    by-uses k (g .args .c) w (g .pre .1 .0 .known) ∙ rw (sym (ap (λ (v : Uses). v .deadline) u) ∙ c .before .before .before .before .before .before .before .before .before .if1 .left, sym (ap (λ (v : Uses). v .moves) u) ∙ c .before .before .before .before .before .before .before .before .if2 .left, sym (ap (λ (v : Uses). v .second) u) ∙ c .before .before .before .before .before .before .before .if3 .taken) in
+    let is = is-wakeOp k (g .args .c) w (g .pre .1 .0 .known) (m .uses-by .result) (m .uses-by .ensures) (c .before .before .before .before .before .before .before .before .before .if1 .left) (c .before .before .before .before .before .before .before .before .if2 .left) (c .before .before .before .before .before .before .before .if3 .taken) in
     let done = c .before .before .before .before .wake-op .ensures in
     (leaves-by _ _ _ _ (sym is) (done .0), done .1 ∙ ap (λ (o : Outcome). wordsBytes (o .world .words)) (sym is))
 
@@ -98,9 +92,7 @@ returns-4 c =
     let g = m .before .before .before in
     let k = commandOf (g .args .c .op) in
     let w = world (stateAt (now (g .args .b))) (wordsAt (now (g .args .words))) in
-    let u = m .uses-by .ensures in
-    let is : callEffect k (g .args .c) w ≡ wake k (g .args .c) w =
-    by-uses k (g .args .c) w (g .pre .1 .0 .known) ∙ rw (sym (ap (λ (v : Uses). v .deadline) u) ∙ c .before .before .before .before .before .before .if1 .left, sym (ap (λ (v : Uses). v .moves) u) ∙ c .before .before .before .before .before .if2 .left, sym (ap (λ (v : Uses). v .second) u) ∙ c .before .before .before .before .if3 .left) in
+    let is = is-wake k (g .args .c) w (g .pre .1 .0 .known) (m .uses-by .result) (m .uses-by .ensures) (c .before .before .before .before .before .before .if1 .left) (c .before .before .before .before .before .if2 .left) (c .before .before .before .before .if3 .left) in
     (leaves-by _ _ _ _ (sym is) (c .before .before .wake .ensures), unchanged m ∙ ap (λ (o : Outcome). wordsBytes (o .world .words)) (sym is))
 
 pub perform-spec : {M : Type 1} → statement M

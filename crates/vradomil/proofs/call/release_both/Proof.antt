@@ -4,16 +4,15 @@ use mathlib.Core.Bool.{cond}
 use native.Mathlib.Omega.{arith}
 use Rattle.tables.specs.declared.LastAnswer.the-variants.{Woken}
 use Rattle.tables.specs.Tables.{wordAt, world}
-use Rattle.tables.specs.Steps.{flagged, endFirst}
+use Rattle.tables.specs.Steps.{flagged}
 use Rattle.tables.proofs.Sound.{Sound, tables-sound}
 use Rattle.rules.specs.Commands.{commandOf}
 use Rattle.rules.specs.WakeOp.{compares}
 use Rattle.rules.specs.Calls.{secondCap}
-use Rattle.effects.proofs.Effects.{end-sound, chosen}
+use Rattle.effects.proofs.Effects.{chosen}
 use Rattle.layout.specs.Layout.{stateAt}
-use Rattle.changes.specs.Change.{Stands, TakenBytes}
-use Rattle.vradomil.proofs.Steps.{stands}
-use Rattle.vradomil.proofs.Effects.{stands-ended, ended-few, both-done}
+use Rattle.vradomil.proofs.Steps.{stands, standing}
+use Rattle.vradomil.proofs.Effects.{Ended, ended, both-done}
 use borrow.Author.Needs.{needs}
 use Rattle.vradomil.proofs.call.release_both.Statement.{statement}
 use Rattle.vradomil.proofs.call.release_both.Tie as tie
@@ -25,22 +24,13 @@ sound : (c : tie.Start) → Sound (stateAt (now (c .args .b)))
 sound c = tables-sound (stateAt (now (c .args .b))) (c .pre .held .sound)
 
 -- the first release, and the tables between it and the second
-took : (c : tie.After-end-first)
+first : (c : tie.After-end-first)
     → let h = c .before .before .before .before .before .before .before in
     let g = h .before .before .before .before .before .before .before in
-    TakenBytes (endFirst Woken (flagged (h .hits .result)) (g .args .c .val) (stateAt (now (g .args .b)))) (c .end-first .result) (c .end-first .last .0)
-took c =
+    Ended Woken (flagged (h .hits .result)) (g .args .c .val) (stateAt (now (g .args .b))) (c .end-first .result) (c .end-first .last .0)
+first c =
     let g = c .before .before .before .before .before .before .before .before .before .before .before .before .before .before in
-    c .end-first .ensures (stateAt (now (g .args .b))) (stands (now (g .args .b)) (g .pre .held))
-
-between : (c : tie.After-end-first)
-    → let h = c .before .before .before .before .before .before .before in
-    let g = h .before .before .before .before .before .before .before in
-    Stands (endFirst Woken (flagged (h .hits .result)) (g .args .c .val) (stateAt (now (g .args .b))) .state) (c .end-first .last .0)
-between c =
-    let h = c .before .before .before .before .before .before .before in
-    let g = h .before .before .before .before .before .before .before in
-    stands-ended Woken (flagged (h .hits .result)) (g .args .c .val) (stateAt (now (g .args .b))) (c .end-first .result) (c .end-first .last .0) (sound g) (took c)
+    ended (stands (now (g .args .b)) (g .pre .held)) Woken _ _ _ _ (c .end-first .ensures)
 
 second-cap-requires : tie.Need-second-cap-requires
 second-cap-requires c κs = search needs
@@ -61,7 +51,7 @@ cast-end-first : tie.Need-cast-end-first
 cast-end-first c = search needs
 
 end-first-requires : tie.Need-end-first-requires
-end-first-requires c κs = let g = c .before .before .before .before .before .before .before .before .before .before .before .before .before in record { state = stateAt (now (g .args .b)); stands = stands (now (g .args .b)) (g .pre .held) }
+end-first-requires c κs = let g = c .before .before .before .before .before .before .before .before .before .before .before .before .before in standing (now (g .args .b)) (g .pre .held)
 
 only-if-requires : tie.Need-only-if-requires
 only-if-requires c κs = search needs
@@ -70,19 +60,14 @@ cast-end-first-2 : tie.Need-cast-end-first-2
 cast-end-first-2 c = search needs
 
 end-first-requires-2 : tie.Need-end-first-requires-2
-end-first-requires-2 c κs = record { state = _; stands = between (c .before .before .before .before) }
+end-first-requires-2 c κs = record { state = _; stands = first (c .before .before .before .before) .left }
 
 add-result : tie.Need-add-result
 add-result c =
     let m = c .before .before in
     let e = m .before .before .before .before .before in
-    let h2 = e .before .before .before in
-    let h = h2 .before .before .before .before in
-    let g = h .before .before .before .before .before .before .before in
-    let s = stateAt (now (g .args .b)) in
-    let first = ended-few Woken (flagged (h .hits .result)) (g .args .c .val) s (e .end-first .result) _ (sound g) (took e) in
-    let next = ended-few Woken (flagged (h2 .hits2 .result)) _ _ (m .end-first2 .result) _ (end-sound Woken (flagged (h .hits .result)) (g .args .c .val) s (sound g)) (m .end-first2 .ensures _ (between e)) in
-    record { fits = omega (arith, first, next) }
+    let second = ended (first e .left) Woken (flagged (e .before .before .before .hits2 .result)) _ (m .end-first2 .result) _ (m .end-first2 .ensures) in
+    record { fits = omega (arith, first e .few, second .few) }
 
 same-length : tie.Need-same-length
 same-length c = search needs
@@ -105,7 +90,7 @@ returns c =
     let limit : o .only-if .result ≡ cond (compares (k .val3) (wordAt (world s ws) (k .process) (k .uaddr2))) (secondCap k) 0 =
     o .only-if .ensures .0 ∙ (λ i. cond (sym is i) (cap .second-cap .ensures i) 0) in
     both-done (commandOf (k .op)) k (world s ws) (sound g) (flagged (h .hits .result)) (flagged (h2 .hits2 .result)) at at2
-    (e .end-first .result) (m .end-first2 .result) (o .only-if .result) _ _ (took e) limit (m .end-first2 .ensures _ (between e))
+    (e .end-first .result) (m .end-first2 .result) (o .only-if .result) _ _ (first e .took) limit (m .end-first2 .ensures _ (first e .left))
 
 pub release-both-spec : {M : Type 1} → statement M
 release-both-spec =

@@ -2,7 +2,7 @@ use denote.Ref.{now}
 use mathlib.Core.Path.{_≡_, ap, _∙_}
 use native.Mathlib.Omega.{arith}
 use Rattle.tables.specs.declared.LastAnswer.the-variants.{Woken}
-use Rattle.tables.specs.Steps.{flagged, endFirst}
+use Rattle.tables.specs.Steps.{flagged}
 use Rattle.tables.proofs.Sound.{Sound, tables-sound}
 use Rattle.lists.specs.Lists.{filter}
 use Rattle.tables.specs.Tables.{arrivals}
@@ -10,11 +10,10 @@ use Rattle.rules.specs.Commands.{commandOf}
 use Rattle.rules.specs.Calls.{matches, candidates}
 use Rattle.effects.proofs.Effects.{chosen}
 use Rattle.layout.specs.Layout.{stateAt}
-use Rattle.changes.specs.Change.{Stands, TakenBytes}
-use Rattle.vradomil.proofs.Steps.{stands}
+use Rattle.vradomil.proofs.Steps.{stands, standing}
 use Rattle.rules.specs.declared.event.Uses.{Uses}
 use mathlib.Core.Bool.{cond}
-use Rattle.vradomil.proofs.Effects.{stands-ended, moved-few, requeue-done}
+use Rattle.vradomil.proofs.Effects.{Ended, ended, moved-few, requeue-done}
 use borrow.Author.Needs.{needs}
 use Rattle.vradomil.proofs.call.requeue.Statement.{statement}
 use Rattle.vradomil.proofs.call.requeue.Tie as tie
@@ -34,22 +33,13 @@ found c =
     chosen (g .args .c) (g .args .c .uaddr) (stateAt (now (g .args .b))) (sound g) (u .uses-by .result) (u .uses-by .ensures) (c .hits .result) (c .hits .ensures)
 
 -- the release, and the tables between it and the moves
-took : (c : tie.After-end-first)
+first : (c : tie.After-end-first)
     → let h = c .before .before .before in
     let g = h .before .before .before .before .before .before .before in
-    TakenBytes (endFirst Woken (flagged (h .hits .result)) (g .args .c .val) (stateAt (now (g .args .b)))) (c .end-first .result) (c .end-first .last .0)
-took c =
+    Ended Woken (flagged (h .hits .result)) (g .args .c .val) (stateAt (now (g .args .b))) (c .end-first .result) (c .end-first .last .0)
+first c =
     let g = c .before .before .before .before .before .before .before .before .before .before in
-    c .end-first .ensures (stateAt (now (g .args .b))) (stands (now (g .args .b)) (g .pre .held))
-
-between : (c : tie.After-end-first)
-    → let h = c .before .before .before in
-    let g = h .before .before .before .before .before .before .before in
-    Stands (endFirst Woken (flagged (h .hits .result)) (g .args .c .val) (stateAt (now (g .args .b))) .state) (c .end-first .last .0)
-between c =
-    let h = c .before .before .before in
-    let g = h .before .before .before .before .before .before .before in
-    stands-ended Woken (flagged (h .hits .result)) (g .args .c .val) (stateAt (now (g .args .b))) (c .end-first .result) (c .end-first .last .0) (sound g) (took c)
+    ended (stands (now (g .args .b)) (g .pre .held)) Woken _ _ _ _ (c .end-first .ensures)
 
 second-cap-requires : tie.Need-second-cap-requires
 second-cap-requires c κs = search needs
@@ -64,15 +54,13 @@ cast-end-first : tie.Need-cast-end-first
 cast-end-first c = search needs
 
 end-first-requires : tie.Need-end-first-requires
-end-first-requires c κs = let g = c .before .before .before .before .before .before .before .before .before in record { state = stateAt (now (g .args .b)); stands = stands (now (g .args .b)) (g .pre .held) }
+end-first-requires c κs = let g = c .before .before .before .before .before .before .before .before .before in standing (now (g .args .b)) (g .pre .held)
 
 cast-move-first : tie.Need-cast-move-first
 cast-move-first c = search needs
 
 move-first-requires : tie.Need-move-first-requires
-move-first-requires c κs =
-    let e = c .before .before .before in
-    record { state = _; stands = between e }
+move-first-requires c κs = record { state = _; stands = first (c .before .before .before) .left }
 
 only-if-requires : tie.Need-only-if-requires
 only-if-requires c κs = search needs
@@ -86,7 +74,7 @@ add-result c =
     let g = u .before .before in
     let k = g .args .c in
     let s = stateAt (now (g .args .b)) in
-    let few = moved-few (commandOf (k .op)) k s (sound g) (flagged (h .hits .result)) (found h) (e .end-first .result) (m .move-first .result) _ _ (took e) _ (m .move-first .ensures _ (between e)) in
+    let few = moved-few (commandOf (k .op)) k s (sound g) (flagged (h .hits .result)) (found h) (e .end-first .result) (m .move-first .result) _ _ (first e .took) _ (m .move-first .ensures _ (first e .left)) in
     record { fits = omega (arith, few, c .only-if .ensures .1) }
 
 same-length : tie.Need-same-length
@@ -103,7 +91,7 @@ returns c =
     let k = g .args .c in
     let s = stateAt (now (g .args .b)) in
     requeue-done (commandOf (k .op)) k s (sound g) (flagged (h .hits .result)) (found h) (e .end-first .result) (m .move-first .result) (c .only-if .result) (cap .second-cap .result) _ _
-    (took e) (cap .second-cap .ensures) (m .move-first .ensures _ (between e))
+    (first e .took) (cap .second-cap .ensures) (m .move-first .ensures _ (first e .left))
     (c .only-if .ensures .0 ∙ ap (λ (v : Uses). cond (v .compare) (m .move-first .result) 0) (u .uses-by .ensures)) (c .only-if .ensures .1)
 
 pub requeue-spec : {M : Type 1} → statement M

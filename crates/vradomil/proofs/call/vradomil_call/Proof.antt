@@ -1,8 +1,7 @@
 use denote.Ref.{now}
 use mathlib.Core.Path.{sym, ap, _∙_}
-use mathlib.Core.List.{[], _∷_}
 use native.Mathlib.Omega.{arith}
-use mir.Facts.{toZ-ofZ, toZ-pos}
+use mir.Facts.{toZ-pos}
 use mir.Syntax.{w32}
 use Rattle.tables.specs.declared.State.{State}
 use Rattle.rules.specs.declared.event.Call.{Call}
@@ -15,7 +14,7 @@ use Rattle.rules.proofs.Rows.{pass-clear}
 use Rattle.kernel.proofs.Calls.{granted}
 use Rattle.layout.specs.Layout.{stateAt, wordsAt}
 use Rattle.layout.specs.Check.{Held}
-use Rattle.vradomil.proofs.Steps.{calls-refused, calls-passed}
+use Rattle.vradomil.proofs.Steps.{read-back, calls-refused, calls-passed}
 use borrow.Author.Needs.{needs}
 use Rattle.vradomil.proofs.call.vradomil_call.Statement.{statement}
 use Rattle.vradomil.proofs.call.vradomil_call.Tie as tie
@@ -72,7 +71,7 @@ returns c =
     let j = c .before .before .before .before in
     let g = start j in
     calls-refused (call g) (now (g .args .tables)) (now (g .args .words)) _ _ (sym (j .judge .ensures .verdict) ∙ c .before .before .v .given .1)
-    (ap (λ z. z ∷ []) (toZ-ofZ (c .refusal .ensures .1)) ∙ c .refusal .ensures .0)
+    (read-back (c .refusal .ensures))
 
 same-length-3 : tie.Need-same-length-3
 same-length-3 c = search needs
@@ -86,7 +85,7 @@ returns-2 c =
     let p = f .before .before .before in
     let j = p .before .before in
     let g = start j in
-    calls-passed (call g) (now (g .args .tables)) (now (g .args .words)) _ (f .perform .result) _ _ (held p) (passed p .known) (sym (j .judge .ensures .verdict) ∙ p .enum-told .given .1)
+    calls-passed (call g) (now (g .args .tables)) (now (g .args .words)) _ (f .perform .result) _ _ (held p) (sym (j .judge .ensures .verdict) ∙ p .enum-told .given .1)
     (toZ-pos w32 {n = f .perform .result} (omega (arith, f .perform .ensures .0 .small))) (f .perform .ensures .0) (f .perform .ensures .1)
 
 pub vradomil-call-spec : {M : Type 1} → statement M

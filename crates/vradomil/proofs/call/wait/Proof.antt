@@ -4,7 +4,7 @@ use native.Mathlib.Omega.{arith}
 use Rattle.rules.specs.Calls.{wait}
 use Rattle.layout.specs.Layout.{stateAt, tablesBytes}
 use Rattle.layout.proofs.Reading.{clock-read}
-use Rattle.vradomil.proofs.Waits.{asleep-is}
+use Rattle.vradomil.proofs.Effects.{asleep-is}
 use borrow.Author.Needs.{needs}
 use Rattle.vradomil.proofs.call.wait.Statement.{statement}
 use Rattle.vradomil.proofs.call.wait.Tie as tie

@@ -4,7 +4,7 @@ use Rattle.tables.proofs.Sound.{Sound, tables-sound}
 use Rattle.rules.specs.Commands.{commandOf}
 use Rattle.effects.proofs.Effects.{chosen}
 use Rattle.layout.specs.Layout.{stateAt}
-use Rattle.vradomil.proofs.Steps.{stands}
+use Rattle.vradomil.proofs.Steps.{stands, standing}
 use Rattle.vradomil.proofs.Effects.{wake-done}
 use borrow.Author.Needs.{needs}
 use Rattle.vradomil.proofs.call.wake.Statement.{statement}
@@ -26,7 +26,7 @@ cast-end-first : tie.Need-cast-end-first
 cast-end-first c = search needs
 
 end-first-requires : tie.Need-end-first-requires
-end-first-requires c κs = let g = c .before .before .before .before .before .before .before .before in record { state = stateAt (now (g .args .b)); stands = stands (now (g .args .b)) (g .pre .held) }
+end-first-requires c κs = let g = c .before .before .before .before .before .before .before .before in standing (now (g .args .b)) (g .pre .held)
 
 same-length : tie.Need-same-length
 same-length c = search needs

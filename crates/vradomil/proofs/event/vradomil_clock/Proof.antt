@@ -2,10 +2,9 @@ use denote.Ref.{now}
 use mathlib.Core.Path.{_≡_, refl, sym, ap, _∙_}
 use mathlib.Core.Bool.{true, false, cond}
 use mathlib.Core.List.{[], _∷_}
-use Prim.Native.Nat.{_≤_}
 use lib.IntN.{pos}
 use native.Mathlib.Omega.{arith}
-use mir.Facts.{toZ-ofZ, toZ-pos}
+use mir.Facts.{toZ-pos}
 use mir.Syntax.{w32}
 use Rattle.rules.specs.declared.event.Event.{Event}
 use Rattle.tables.specs.declared.State.{State}
@@ -13,22 +12,19 @@ use Rattle.rules.specs.declared.answer.Errno.the-variants.{EINVAL}
 use Rattle.rules.specs.declared.answer.Verdict.the-variants.{Refuse, Pass}
 use Rattle.tables.specs.Sizes.{threads}
 use Rattle.tables.specs.Steps.{flagged, endFirst}
-use Rattle.tables.proofs.Sound.{Sound, tables-sound, sound-tables}
+use Rattle.tables.proofs.Sound.{Sound, tables-sound}
 use Rattle.rules.specs.Answers.{first}
 use Rattle.rules.specs.Events.{refusals, effect, clockEffect}
 use Rattle.tables.specs.Tables.{world}
 use Rattle.layout.specs.Layout.{tablesAt, stateAt, wordsAt}
 use Rattle.layout.specs.Check.{Held}
-use Rattle.changes.specs.Change.{TakenBytes}
 use Rattle.vradomil.specs.Host.{seen}
-use Rattle.vradomil.proofs.Steps.{stands, event-refused, event-passed, changes-tables-refused, changes-tables-done}
-use Rattle.vradomil.proofs.Effects.{ended-few, answered-leaves}
+use Rattle.vradomil.proofs.Steps.{read-back, stands, standing, event-refused, event-passed, changes-tables-refused, changes-tables-done}
+use Rattle.vradomil.proofs.Effects.{Ended, ended, answered-leaves}
 use lib.Dec.{ltb}
 use borrow.Author.Tests.{lt-ltb, le-ltb}
-use Rattle.lists.specs.LittleEndian.{bytes}
 use Rattle.tables.specs.declared.LastAnswer.the-variants.{TimedOut}
 use Rattle.rules.specs.declared.event.Event.the-variants.{Clock}
-use Rattle.effects.proofs.Effects.{end-sound}
 use Rattle.kernel.proofs.Events.{clock-ends}
 use Rattle.layout.proofs.Reading.{clock-read}
 use Rattle.changes.proofs.Writing.{clock-put}
@@ -63,19 +59,12 @@ own c =
     let g = start l in
     event-passed (event g) (now (g .args .tables)) (now (g .args .words)) (l .judge-buffers .result) (l .judge-buffers .ensures) refl (c .enum-told .given .1)
 
-took : (c : tie.After-end-first)
+timed-out : (c : tie.After-end-first)
     → let p = c .before .before .before .before .before .before .before in
-    let b = now (start (p .before .before) .args .tables) in
-    TakenBytes (endFirst TimedOut (flagged (c .before .before .expired .result)) threads (stateAt b)) (c .end-first .result) (c .end-first .last .0)
-took c =
+    Ended TimedOut (flagged (c .before .before .expired .result)) threads (stateAt (now (start (p .before .before) .args .tables))) (c .end-first .result) (c .end-first .last .0)
+timed-out c =
     let p = c .before .before .before .before .before .before .before in
-    let b = now (start (p .before .before) .args .tables) in
-    c .end-first .ensures (stateAt b) (stands b (held p))
-
-few : (c : tie.After-end-first) → c .end-first .result ≤ threads
-few c =
-    let p = c .before .before .before .before .before .before .before in
-    ended-few TimedOut (flagged (c .before .before .expired .result)) threads (stateAt (now (start (p .before .before) .args .tables))) (c .end-first .result) (c .end-first .last .0) (sound p) (took c)
+    ended (stands (now (start (p .before .before) .args .tables)) (held p)) TimedOut _ _ _ _ (c .end-first .ensures)
 
 judge-buffers-requires : tie.Need-judge-buffers-requires
 judge-buffers-requires c κs = search needs
@@ -107,7 +96,7 @@ returns c =
     let b = now (g .args .tables) in
     let early : ltb (g .args .time) (tablesAt b .clock) ≡ true = sym (ap (ltb (g .args .time)) (clock k)) ∙ lt-ltb (g .args .time) (k .u64-at .result) (c .before .if1 .taken) in
     changes-tables-refused (event g) b (now (g .args .words)) _ EINVAL (own p ∙ rw early)
-    (ap (λ z. z ∷ []) (toZ-ofZ (c .refusal2 .ensures .1)) ∙ c .refusal2 .ensures .0)
+    (read-back (c .refusal2 .ensures))
 
 expired-requires : tie.Need-expired-requires
 expired-requires c κs = held (c .before .before .before .before)
@@ -115,14 +104,13 @@ expired-requires c κs = held (c .before .before .before .before)
 end-first-requires : tie.Need-end-first-requires
 end-first-requires c κs =
     let p = c .before .before .before .before .before .before in
-    let b = now (start (p .before .before) .args .tables) in
-    record { state = stateAt b; stands = stands b (held p) }
+    standing (now (start (p .before .before) .args .tables)) (held p)
 
 put-u64-requires : tie.Need-put-u64-requires
 put-u64-requires c κs = omega (arith, c .before .before .before .end-first .kept .0, held (c .before .before .before .before .before .before .before .before .before .before) .size)
 
 cast-result : tie.Need-cast-result
-cast-result c = record { sfits = omega (arith, few (c .before .before .before .before .before .before)) }
+cast-result c = record { sfits = omega (arith, timed-out (c .before .before .before .before .before .before) .few) }
 
 same-length-2 : tie.Need-same-length-2
 same-length-2 c = search needs
@@ -132,7 +120,7 @@ returns-2 c =
     let l = c .before .before .before .before in
     let g = start l in
     changes-tables-refused (event g) (now (g .args .tables)) (now (g .args .words)) _ _ (event-refused (event g) (now (g .args .tables)) (now (g .args .words)) (l .judge-buffers .result) (l .judge-buffers .ensures) refl _ (c .before .before .v .given .1))
-    (ap (λ z. z ∷ []) (toZ-ofZ (c .refusal .ensures .1)) ∙ c .refusal .ensures .0)
+    (read-back (c .refusal .ensures))
 
 same-length-3 : tie.Need-same-length-3
 same-length-3 c = search needs
@@ -154,14 +142,14 @@ returns-3 c =
     let time = g .args .time in
     let f = flagged (x .expired .result) in
     let t = endFirst TimedOut f threads s in
-    let w = whole (t .state) (sound-tables (t .state) (end-sound TimedOut f threads s (sound p))) in
+    let w = whole (t .state) (timed-out e .left .sound) in
     let early : ltb time (tablesAt b .clock) ≡ false = sym (ap (ltb time) (clock k)) ∙ le-ltb time (k .u64-at .result) (o .if1 .left) in
-    changes-tables-done (event g) b m _ (e .end-first .result) _ (held p) (own p ∙ rw early) refl (toZ-pos w32 {n = e .end-first .result} (omega (arith, few e)))
+    changes-tables-done (event g) b m _ (e .end-first .result) _ (held p) (own p ∙ rw early) (toZ-pos w32 {n = e .end-first .result} (omega (arith, timed-out e .few)))
     (answered-leaves (clockEffect time (world s (wordsAt m))) _ (e .end-first .result) _ (clock-ends time s (wordsAt m) (sound p) (x .expired .result) (x .expired .ensures) t refl)
     (record {
-      number = ap (λ q. pos q ∷ []) (took e .number);
-      small = omega (arith, few e);
-      bytes = u .put-u64 .ensures ∙ clock-put (t .state) w time (e .end-first .last .0) (took e .bytes);
+      number = ap (λ q. pos q ∷ []) (timed-out e .took .number);
+      small = omega (arith, timed-out e .few);
+      bytes = u .put-u64 .ensures ∙ clock-put (t .state) w time (e .end-first .last .0) (timed-out e .took .bytes);
     }))
 
 pub vradomil-clock-spec : {M : Type 1} → statement M

@@ -1,16 +1,16 @@
 use denote.Ref.{now}
-use mathlib.Core.Path.{_≡_, refl, sym, ap, _∙_}
-use mathlib.Core.List.{List, [], _∷_}
+use mathlib.Core.Path.{_≡_, refl, sym, _∙_}
+use mathlib.Core.List.{List}
 use Prim.Native.Nat.{ℕ, _-_, _≤_}
 use native.Mathlib.Omega.{arith}
 use borrow.Author.Needs.{needs}
 use borrow.Author.Tests.{eq-eqb, ne-eqb}
 use lib.ListN.{length, take, length-set}
 use lib.Seq.{take-all}
-use mir.Facts.{toZ-ofZ}
 use Rattle.lists.proofs.Loops.{copy-next}
 use Rattle.tables.specs.Tables.{fresh}
 use Rattle.layout.specs.Layout.{tablesBytes, tablesSize}
+use Rattle.vradomil.proofs.Steps.{read-back}
 use Rattle.vradomil.proofs.Laying.{fresh-size, fresh-byte}
 use Rattle.vradomil.proofs.event.vradomil_fresh.Statement.{statement}
 use Rattle.vradomil.proofs.event.vradomil_fresh.Tie as tie
@@ -33,7 +33,7 @@ refusal-requires c κs = search needs
 returns : tie.Need-returns Inv-loop μ-loop
 returns c =
     let other = ne-eqb (length (now (c .before .before .before .args .tables))) tablesSize (c .before .if1 .taken) in
-    record { number = ap (λ z. z ∷ []) (toZ-ofZ (c .refusal .ensures .1)) ∙ c .refusal .ensures .0 ∙ rw other; bytes = rw other }
+    record { number = read-back (c .refusal .ensures) ∙ rw other; bytes = rw other }
 
 loop-holds : tie.Need-loop-holds Inv-loop μ-loop
 loop-holds c = record { within = omega arith; long = refl; done = refl }

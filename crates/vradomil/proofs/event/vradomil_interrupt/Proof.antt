@@ -1,11 +1,11 @@
 use denote.Ref.{now}
 use mathlib.Core.Path.{_≡_, refl, sym, ap, _∙_}
 use mathlib.Core.Bool.{Bool, true, false, cond}
-use mathlib.Core.List.{List, [], _∷_}
-use Prim.Native.Nat.{ℕ, _≤_}
+use mathlib.Core.List.{List}
+use Prim.Native.Nat.{ℕ}
 use native.Mathlib.Omega.{arith}
 use lib.ListN.{set, replicate}
-use mir.Facts.{toZ-ofZ, toZ-pos}
+use mir.Facts.{toZ-pos}
 use mir.Syntax.{w32}
 use Rattle.tables.specs.declared.LastAnswer.the-variants.{Interrupted}
 use Rattle.rules.specs.declared.event.Event.{Event}
@@ -23,10 +23,9 @@ use Rattle.rules.proofs.Passed.{thread-process, thread-index}
 use Rattle.kernel.proofs.Events.{interrupt-ends}
 use Rattle.layout.specs.Layout.{stateAt, wordsAt}
 use Rattle.layout.specs.Check.{Held}
-use Rattle.changes.specs.Change.{TakenBytes}
 use Rattle.vradomil.specs.Host.{seen}
-use Rattle.vradomil.proofs.Steps.{stands, took-done, interrupt-answers, event-refused, event-passed, changes-tables-refused, changes-tables-done}
-use Rattle.vradomil.proofs.Effects.{ended-few, answered-leaves}
+use Rattle.vradomil.proofs.Steps.{read-back, stands, standing, took-done, event-refused, event-passed, changes-tables-refused, changes-tables-done}
+use Rattle.vradomil.proofs.Effects.{Ended, ended, answered-leaves}
 use borrow.Author.Needs.{needs}
 use Rattle.vradomil.proofs.event.vradomil_interrupt.Statement.{statement}
 use Rattle.vradomil.proofs.event.vradomil_interrupt.Tie as tie
@@ -55,19 +54,12 @@ own c =
     let g = start l in
     event-passed (event g) (now (g .args .tables)) (now (g .args .words)) (l .judge-buffers .result) (l .judge-buffers .ensures) refl (c .enum-told .given .1)
 
-took : (c : tie.After-end-first)
+stopped : (c : tie.After-end-first)
     → let p = c .before .before .before .before .before in
-    let b = now (start (p .before .before) .args .tables) in
-    TakenBytes (endFirst Interrupted (flagged (one (c .before .before .thread-index .result))) 1 (stateAt b)) (c .end-first .result) (c .end-first .last .0)
-took c =
+    Ended Interrupted (flagged (one (c .before .before .thread-index .result))) 1 (stateAt (now (start (p .before .before) .args .tables))) (c .end-first .result) (c .end-first .last .0)
+stopped c =
     let p = c .before .before .before .before .before in
-    let b = now (start (p .before .before) .args .tables) in
-    c .end-first .ensures (stateAt b) (stands b (held p))
-
-few : (c : tie.After-end-first) → c .end-first .result ≤ threads
-few c =
-    let p = c .before .before .before .before .before in
-    ended-few Interrupted (flagged (one (c .before .before .thread-index .result))) 1 (stateAt (now (start (p .before .before) .args .tables))) (c .end-first .result) (c .end-first .last .0) (sound p) (took c)
+    ended (stands (now (start (p .before .before) .args .tables)) (held p)) Interrupted _ _ _ _ (c .end-first .ensures)
 
 judge-buffers-requires : tie.Need-judge-buffers-requires
 judge-buffers-requires c κs = search needs
@@ -96,7 +88,7 @@ returns c =
     let p = n .before in
     let g = start (p .before .before) in
     changes-tables-refused (event g) (now (g .args .tables)) (now (g .args .words)) _ ESRCH (own p ∙ rw (sym (n .no-thread .ensures) ∙ c .before .if1 .taken))
-    (ap (λ z. z ∷ []) (toZ-ofZ (c .refusal2 .ensures .1)) ∙ c .refusal2 .ensures .0)
+    (read-back (c .refusal2 .ensures))
 
 thread-index-requires : tie.Need-thread-index-requires
 thread-index-requires c κs = search needs
@@ -107,11 +99,10 @@ array-write-flags c = search needs
 end-first-requires : tie.Need-end-first-requires
 end-first-requires c κs =
     let p = c .before .before .before .before in
-    let b = now (start (p .before .before) .args .tables) in
-    record { state = stateAt b; stands = stands b (held p) }
+    standing (now (start (p .before .before) .args .tables)) (held p)
 
 cast-result : tie.Need-cast-result
-cast-result c = record { sfits = omega (arith, few (c .before .before)) }
+cast-result c = record { sfits = omega (arith, stopped (c .before .before) .few) }
 
 same-length-2 : tie.Need-same-length-2
 same-length-2 c = search needs
@@ -121,7 +112,7 @@ returns-2 c =
     let l = c .before .before .before .before in
     let g = start l in
     changes-tables-refused (event g) (now (g .args .tables)) (now (g .args .words)) _ _ (event-refused (event g) (now (g .args .tables)) (now (g .args .words)) (l .judge-buffers .result) (l .judge-buffers .ensures) refl _ (c .before .before .v .given .1))
-    (ap (λ z. z ∷ []) (toZ-ofZ (c .refusal .ensures .1)) ∙ c .refusal .ensures .0)
+    (read-back (c .refusal .ensures))
 
 same-length-3 : tie.Need-same-length-3
 same-length-3 c = search needs
@@ -142,11 +133,11 @@ returns-3 c =
     let exists : noThread (g .args .process) (g .args .index) ≡ false = sym (n .no-thread .ensures) ∙ o .if1 .left in
     let at = t .thread-index .ensures .exact (thread-process (g .args .process) (g .args .index) exists) (thread-index (g .args .process) (g .args .index) exists) in
     let taken = endFirst Interrupted (flagged (one x)) 1 s in
-    changes-tables-done (event g) b m _ (e .end-first .result) _ (held p) (own p ∙ rw exists) (interrupt-answers (threadNumber (g .args .process) (g .args .index)) (seen b m))
-    (toZ-pos w32 {n = e .end-first .result} (omega (arith, few e)))
+    changes-tables-done (event g) b m _ (e .end-first .result) _ (held p) (own p ∙ rw exists)
+    (toZ-pos w32 {n = e .end-first .result} (omega (arith, stopped e .few)))
     (answered-leaves (interruptEffect (threadNumber (g .args .process) (g .args .index)) (world s (wordsAt m))) _ (e .end-first .result) _
     (interrupt-ends x s (wordsAt m) (sound p) (t .thread-index .ensures .inside) taken refl ∙ ap (λ q. answered (interruptEffect q (world s (wordsAt m)))) at)
-    (took-done taken (e .end-first .result) _ (took e) (omega (arith, few e))))
+    (took-done taken (e .end-first .result) _ (stopped e .took) (omega (arith, stopped e .few))))
 
 pub vradomil-interrupt-spec : {M : Type 1} → statement M
 vradomil-interrupt-spec =

@@ -1,8 +1,6 @@
 use denote.Ref.{now}
 use mathlib.Core.Path.{_≡_, refl, sym, ap, _∙_}
-use mathlib.Core.List.{[], _∷_}
 use native.Mathlib.Omega.{arith}
-use mir.Facts.{toZ-ofZ}
 use Rattle.rules.specs.declared.event.Event.{Event}
 use mathlib.Core.Bool.{not, cond}
 use Prim.Native.Nat.{ℕ}
@@ -17,11 +15,11 @@ use Rattle.tables.specs.Tables.{aligned, writeWord}
 use Rattle.rules.specs.Answers.{first}
 use Rattle.rules.specs.Calls.{noProcess}
 use Rattle.rules.specs.Events.{refusals, effect}
-use Rattle.rules.proofs.Rows.{pass-clear}
+use Rattle.rules.proofs.Rows.{pass-clear, ownRows}
 use Rattle.layout.specs.Layout.{wordsAt, wordsBytes}
 use Rattle.vradomil.specs.Host.{seen}
 use Rattle.vradomil.proofs.Memory.{word-written}
-use Rattle.vradomil.proofs.Steps.{ownRows, event-refused, event-passed, changes-words-refused, number-passed, words-passed}
+use Rattle.vradomil.proofs.Steps.{read-back, event-refused, event-passed, changes-words-refused, number-passed, words-passed}
 use borrow.Author.Needs.{needs}
 use Rattle.vradomil.proofs.event.vradomil_store.Statement.{statement}
 use Rattle.vradomil.proofs.event.vradomil_store.Tie as tie
@@ -93,7 +91,7 @@ returns c =
     let l = c .before .before .before .before in
     let g = start l in
     changes-words-refused (event g) (now (g .args .tables)) (now (g .args .words)) _ _ (event-refused (event g) (now (g .args .tables)) (now (g .args .words)) (l .judge-buffers .result) (l .judge-buffers .ensures) refl _ (c .before .before .v .given .1))
-    (ap (λ z. z ∷ []) (toZ-ofZ (c .refusal .ensures .1)) ∙ c .refusal .ensures .0)
+    (read-back (c .refusal .ensures))
 
 same-length-2 : tie.Need-same-length-2
 same-length-2 c = search needs
@@ -103,7 +101,7 @@ returns-2 c =
     let r = c .before .before .before .before in
     let g = start (r .before .before .before .before .before) in
     changes-words-refused (event g) (now (g .args .tables)) (now (g .args .words)) _ _ (sym (verdict r) ∙ c .before .before .v2 .given .1)
-    (ap (λ z. z ∷ []) (toZ-ofZ (c .refusal2 .ensures .1)) ∙ c .refusal2 .ensures .0)
+    (read-back (c .refusal2 .ensures))
 
 same-length-3 : tie.Need-same-length-3
 same-length-3 c = search needs
@@ -125,8 +123,8 @@ returns-3 c =
     let long = l .judge-buffers .ensures .long (r .before .before .before .enum-told .given .1) in
     let h = sym (verdict r) ∙ pass in
     record {
-      number = number-passed (event g) b m _ h refl refl;
-      bytes = words-passed (event g) b m _ h refl refl _
+      number = number-passed (event g) b m _ h refl;
+      bytes = words-passed (event g) b m _ h refl _
           (p .put-u32 .ensures ∙ word-written memoryWords m (i .word-index .result) (g .args .value) long low (i .word-index .ensures .inside) ∙ ap (λ x. wordsBytes (set (wordsAt m) x (g .args .value))) at);
     }
 
