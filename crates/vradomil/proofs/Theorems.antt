@@ -15,7 +15,7 @@ use Rattle.rules.specs.Calls.{noProcess}
 use Rattle.rules.specs.Events.{waitingSet, panelOf, panel}
 use Rattle.kernel.proofs.Events.{bits-small}
 use Rattle.layout.specs.Layout.{tablesBytes, tablesAt, wordsBytes, wordsAt}
-use Rattle.vradomil.specs.Host.{packed}
+use Rattle.vradomil.specs.Host.{packed, countUnit, lowestUnit}
 use Rattle.changes.specs.Change.{Fits}
 use Rattle.changes.proofs.Faithful.{tables-back}
 use Rattle.vradomil.proofs.Memory.{words-back}
@@ -25,12 +25,12 @@ tables-stand s ok fit = tables-back s (tablesBytes s) (record { bytes = refl; so
 
 -- The one number of a panel query holds the three that document 01 asks for.
 pub panel-unpacks : (p : ℕ) (s : State)
-    → (packed (panel p s) % 256 ≡ panel p s .waiting) × (packed (panel p s) / 256 % 256 ≡ panel p s .count) × (packed (panel p s) / 65536 ≡ panel p s .lowest)
+    → (packed (panel p s) % countUnit ≡ panel p s .waiting) × (packed (panel p s) / countUnit % countUnit ≡ panel p s .count) × (packed (panel p s) / lowestUnit ≡ panel p s .lowest)
 unfolding panel waitingSet
 panel-unpacks p s = parts (cond (noProcess p || not (tablesOk s)) 0 (waitingSet p s)) small
   where
     parts : (b : ℕ) → b < 2 ^ threadsPerProcess
-        → (packed (panelOf b) % 256 ≡ b) × (packed (panelOf b) / 256 % 256 ≡ ones b) × (packed (panelOf b) / 65536 ≡ trailingZeros threadsPerProcess b)
+        → (packed (panelOf b) % countUnit ≡ b) × (packed (panelOf b) / countUnit % countUnit ≡ ones b) × (packed (panelOf b) / lowestUnit ≡ trailingZeros threadsPerProcess b)
     parts b low =
         let few = ones-le threadsPerProcess b low in
         let near = trailing-le threadsPerProcess b in

@@ -2,7 +2,7 @@
 use mathlib.Core.Path.{_≡_}
 use mathlib.Core.Bool.{cond}
 use mathlib.Core.List.{List, [], _∷_}
-use Prim.Native.Nat.{ℕ, _+_, _*_, _≤_}
+use Prim.Native.Nat.{ℕ, _+_, _*_, _^_, _≤_}
 use lib.IntN.{ℤ, pos}
 use lib.ListN.{length}
 use lib.Dec.{eqb}
@@ -55,9 +55,15 @@ pub record Calls (c : Call) (b m : List ℕ) (r : ℤ) (bAfter mAfter : List ℕ
   pub tables : bAfter ≡ tablesLeft (step (CallEvent c) (seen b m)) b
   pub words : mAfter ≡ wordsLeft (step (CallEvent c) (seen b m)) m
 
--- the three numbers of a panel query in one
+-- the three numbers of a panel query in one: the waiting set in the lowest byte, the count in the second, the lowest thread above
+abbrev pub countUnit : ℕ
+countUnit = 2 ^ 8
+
+abbrev pub lowestUnit : ℕ
+lowestUnit = 2 ^ 16
+
 abbrev pub packed : Panel → ℕ
-packed v = v .waiting + 256 * v .count + 65536 * v .lowest
+packed v = v .waiting + countUnit * v .count + lowestUnit * v .lowest
 
 -- fresh tables are laid down; of another length than the tables' they are refused as the tables would be
 pub record Initialised (b : List ℕ) (r : ℤ) (after : List ℕ) : Type 0 where

@@ -127,7 +127,12 @@ fn waiting_set(tables: &[u8], process: usize) -> u8
     bits as u8
 }
 
-// A panel query: waiting + 256 * count + 65536 * lowest.
+// The units of the count and of the lowest thread in the one number of a panel query.
+const COUNT_UNIT: u32 = 256;
+
+const LOWEST_UNIT: u32 = 65536;
+
+// A panel query: the waiting set, the count and the lowest thread in one number.
 #[no_mangle]
 pub extern "C" fn vradomil_query(tables: &[u8], process: u8) -> u32
     ensures { λ r. ⌜ r ≡ packed (panel process (tablesAt (now (tables .entry)))) ⌝ }
@@ -141,7 +146,7 @@ pub extern "C" fn vradomil_query(tables: &[u8], process: u8) -> u32
     };
     let n = u8::count_ones(bits);
     let lowest = u8::trailing_zeros(bits);
-    bits as u32 + 256 * n + 65536 * lowest
+    bits as u32 + COUNT_UNIT * n + LOWEST_UNIT * lowest
 }
 
 // A byte of the fresh tables.
