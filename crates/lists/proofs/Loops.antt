@@ -1,6 +1,6 @@
 -- One turn of a loop, as a law of lists: one element more of a list that is gone through, stored, tested or split.
 use mathlib.Core.Path.{_≡_, refl, sym, ap, _∙_}
-use mathlib.Core.Bool.{Bool, true, false, not, _&&_, and-assoc, and-true}
+use mathlib.Core.Bool.{Bool, true, false, not, _&&_, _||_, and-assoc, and-true, or-true, or-false}
 use mathlib.Core.List.{List, [], _∷_, _++_, append-assoc}
 use Prim.Native.Nat.{ℕ, zero, suc, _+_, _-_, _≤_, _<_}
 use native.Mathlib.Numerals.{add-one}
@@ -68,12 +68,22 @@ module _ {A : Type 0} where
         leftOver-none (y ∷ ys) = refl
     leftOver-kept (suc m) e = cases (f x) (λ d. clash true refl (cc (lt-ltb 0 (suc m) (omega arith)))) (λ d. cc)
 
+-- the numbers of a list, with one more
+elem-snoc : (t : ℕ) (l : List ℕ) (x : ℕ) → elem t (l ++ (x ∷ [])) ≡ (elem t l || eqb t x)
+elem-snoc t l x = elem-append t l (x ∷ []) ∙ ap (elem t l ||_) (or-false (eqb t x))
+
+pub elem-last : (l : List ℕ) (x : ℕ) → elem x (l ++ (x ∷ [])) ≡ true
+elem-last l x = elem-snoc x l x ∙ rw (eqb-refl x) (or-true (elem x l))
+
+pub elem-before : (t : ℕ) (l : List ℕ) (x : ℕ) → eqb t x ≡ false → elem t (l ++ (x ∷ [])) ≡ elem t l
+elem-before t l x e = elem-snoc t l x ∙ rw e (or-false (elem t l))
+
 -- no number twice
 pub distinct-snoc : (l : List ℕ) (x : ℕ) → distinct (l ++ (x ∷ [])) ≡ (distinct l && not (elem x l))
 distinct-snoc [] x = refl
 distinct-snoc (y ∷ ys) x =
     let ih = distinct-snoc ys x in
-    let e = elem-append y ys (x ∷ []) in
+    let e = elem-snoc y ys x in
     cases (eqb x y)
     (λ k. let k' : eqb y x ≡ true = cc (eqb-sym x y) in
     cases (elem y ys) (λ d. cc) (λ d. cases (distinct ys) (λ b. cc) (λ b. cc)))

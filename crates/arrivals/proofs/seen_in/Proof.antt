@@ -4,18 +4,17 @@ use mathlib.Core.List.{List, [], _∷_, _++_}
 use Prim.Native.Nat.{ℕ, _-_, _%_, _≤_}
 use native.Mathlib.Omega.{arith}
 use borrow.Author.Needs.{needs}
-use borrow.Author.Tests.{eqb-true, eqb-false, ne-eqb, ltb-true, ltb-false}
+use borrow.Author.Tests.{ne-eqb, ltb-true, ltb-false}
 use lib.ListN.{length, take, getD, set, length-set}
 use lib.Seq.{set-getD}
-use lib.Dec.{eqb, ltb}
+use lib.Dec.{ltb}
 use Rattle.lists.specs.Lists.{all, elem, distinct}
 use Rattle.lists.proofs.Tests.{cases}
 use Rattle.lists.proofs.Filter.{getD-replicated}
-use Rattle.lists.proofs.Occurs.{elem-append}
-use Rattle.lists.proofs.Loops.{take-next, all-snoc, distinct-snoc}
+use Rattle.lists.proofs.Loops.{take-next, all-snoc, elem-last, elem-before, distinct-snoc}
 use Rattle.arrivals.specs.Sizes.{threads}
 use Rattle.arrivals.specs.Arrivals.{flagged, Flags, SeenIn}
-use Rattle.arrivals.proofs.Flags.{flag-here, flag-there}
+use Rattle.arrivals.proofs.Flags.{flags-set}
 use Rattle.arrivals.proofs.seen_in.Statement.{statement}
 use Rattle.arrivals.proofs.seen_in.Tie as tie
 
@@ -81,19 +80,12 @@ module _ (l : List ℕ) (ok : Bool) (marks : List Bool) (x j : ℕ) (g : SeenIn 
       (λ e. rw (entries, e, and-false ok, and-false (all (λ t. ltb t threads) l)))
 
   -- a thread number is marked, and nothing else is
-  marked-low : ltb x threads ≡ true → Flags (set marks j (flagged marks j || ltb x threads)) (λ t. elem t l || eqb t x)
-  marked-low e t h = rw (at-low e, e, or-true (flagged marks x)) (cases (eqb t x)
-      (λ d. rw (d, eqb-true t x d, or-true (elem x l)) (flag-here marks x true (let k = ltb-true x threads e in omega arith)))
-      (λ d. flag-there marks x t true (eqb-false t x d) ∙ rw (d, or-false (elem t l)) (g .marked t h)))
-
-  marked-out : ltb x threads ≡ false → Flags (set marks j (flagged marks j || ltb x threads)) (λ t. elem t l || eqb t x)
-  marked-out e t h =
-      rw (e, or-false (flagged marks j), set-getD marks j false, ne-eqb t x (λ q. let k = ltb-false x threads e in omega arith), or-false (elem t l)) (g .marked t h)
-
   marked-next : Flags (set marks j (flagged marks j || ltb x threads)) (λ t. elem t (l ++ (x ∷ [])))
-  marked-next t h =
-      let both : elem t (l ++ (x ∷ [])) ≡ (elem t l || eqb t x) = elem-append t l (x ∷ []) ∙ ap (elem t l ||_) (or-false (eqb t x)) in
-      rw both (cases (ltb x threads) (λ e. marked-low e t h) (λ e. marked-out e t h))
+  marked-next t h = cases (ltb x threads)
+      (λ e. rw (at-low e, e, or-true (flagged marks x))
+      (flags-set marks (λ u. elem u (l ++ (x ∷ []))) x true (let k = ltb-true x threads e in omega arith) (sym (elem-last l x)) t (λ d. g .marked t h ∙ sym (elem-before t l x d))))
+      (λ e. rw (e, or-false (flagged marks j), set-getD marks j false)
+      (g .marked t h ∙ sym (elem-before t l x (ne-eqb t x (λ q. let k = ltb-false x threads e in omega arith)))))
 
   turn : SeenIn (l ++ (x ∷ [])) (ok && ltb x threads && not (flagged marks j)) (set marks j (flagged marks j || ltb x threads))
   turn = record { sound = sound-next; marked = marked-next }
