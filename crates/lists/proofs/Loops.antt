@@ -5,8 +5,8 @@ use mathlib.Core.List.{List, [], _∷_, _++_, append-assoc}
 use Prim.Native.Nat.{ℕ, zero, suc, _+_, _-_, _≤_, _<_}
 use native.Mathlib.Numerals.{add-one}
 use native.Mathlib.Omega.{arith}
-use lib.ListN.{length, take, drop, getD, set, replicate, length-append}
-use lib.Seq.{take-nil, drop-nil, take-suc, take-suc-set, drop-cons, set-append-seam}
+use lib.ListN.{length, take, drop, getD, set, replicate, length-append, length-set}
+use lib.Seq.{take-nil, take-all, drop-nil, take-suc, take-suc-set, drop-cons, set-append-seam}
 use lib.Dec.{eqb, ltb}
 use borrow.Author.Tests.{lt-ltb}
 use Rattle.lists.specs.Lists.{filter, all, elem, without, distinct, padTo, leftOver, bit}
@@ -21,11 +21,27 @@ module _ {A : Type 0} where
   pub drop-next : (l : List A) (j : ℕ) (d : A) → j < length l → drop j l ≡ getD l j d ∷ drop (j + 1) l
   drop-next l j d h = rw add-one (drop-cons l j d h)
 
-  -- one element more of a list that is copied
-  pub copy-next : (xs ys : List A) (i : ℕ) (v d : A) → i < length xs → i < length ys → take i xs ≡ take i ys → v ≡ getD ys i d
-      → take (i + 1) (set xs i v) ≡ take (i + 1) ys
-  copy-next xs ys i v d h l done is =
-      ap (λ n. take n (set xs i v)) (add-one i) ∙ take-suc-set xs i v h ∙ (λ k. done k ++ (is k ∷ [])) ∙ sym (take-next ys i d l)
+  -- A loop that copies the first n elements of ys has copied i.
+  pub record Copied (ys : List A) (n : ℕ) (xs : List A) (i : ℕ) : Type 0 where
+    pub within : i ≤ n
+    pub long : length xs ≡ n
+    pub done : take i xs ≡ take i ys
+
+  pub copied-start : (ys : List A) (n : ℕ) (xs : List A) → length xs ≡ n → Copied ys n xs 0
+  copied-start ys n xs h = record { within = omega arith; long = h; done = refl }
+
+  pub copied-next : (ys : List A) (n : ℕ) (xs : List A) (i : ℕ) (v d : A) → Copied ys n xs i → i < n → n ≤ length ys → v ≡ getD ys i d
+      → Copied ys n (set xs i v) (i + 1)
+  copied-next ys n xs i v d g more fits is =
+      record {
+        within = omega arith;
+        long = length-set xs i v ∙ g .long;
+        done = ap (λ m. take m (set xs i v)) (add-one i) ∙ take-suc-set xs i v (omega (arith, g .long)) ∙ (λ k. g .done k ++ (is k ∷ []))
+            ∙ sym (take-next ys i d (omega arith));
+      }
+
+  pub copied-all : (ys : List A) (n : ℕ) (xs : List A) (i : ℕ) → Copied ys n xs i → n ≤ i → xs ≡ take n ys
+  copied-all ys n xs i g end = let e : i ≡ n = omega (arith, g .within) in sym (take-all n xs (omega (arith, g .long))) ∙ rw e at (g .done)
 
   pub length-snoc : (l : List A) (x : A) → length (l ++ (x ∷ [])) ≡ length l + 1
   length-snoc l x = length-append l (x ∷ [])
