@@ -5,18 +5,16 @@ use Prim.Native.Nat.{ℕ, zero, suc, _+_, _*_, _≤_, _<_}
 use native.Mathlib.Omega.{arith}
 use native.Mathlib.Nat.{mul-zero, mul-suc, zero-add, add-zero, add-assoc}
 use lib.ListN.{length, take, drop, getD, set, length-append, length-drop}
-use lib.Seq.{sets, length-take-le, take-append-le, drop-append-le, drop-append-add, take-add, drop-drop}
+use lib.Seq.{sets, take-append-le, drop-append-le, drop-append-add, take-add, drop-drop}
 use Rattle.lists.specs.Lists.{tabulate}
 use Rattle.lists.specs.LittleEndian.{bytes, Bytes, numberAt}
 use Rattle.lists.proofs.Stores.{sets-left, sets-right, sets-all}
-use Rattle.lists.proofs.LittleEndian.{length-bytes, bytes-le, bytes-take, bytes-drop}
+use Rattle.lists.proofs.LittleEndian.{length-bytes, bytes-drop, bytes-read}
 use Rattle.layout.specs.Layout.{column, concat}
 
 -- bytes that are read as a number and written again
 pub exact : (b : List ℕ) → Bytes b → (w k : ℕ) → k + w ≤ length b → bytes w (numberAt w k b) ≡ take w (drop k b)
-exact b h w k fits =
-    let long : length (take w (drop k b)) ≡ w = length-take-le w (drop k b) (rw length-drop (omega arith)) in
-    ap (λ n. bytes n (numberAt w k b)) (sym long) ∙ bytes-le (take w (drop k b)) (bytes-take w (drop k b) (bytes-drop k b h))
+exact b h w k fits = bytes-read w (drop k b) (bytes-drop k b h) (rw length-drop (omega arith))
 
 -- numbers of width w behind each other
 module _ {A : Type 0} (w : ℕ) (f : A → ℕ) where
