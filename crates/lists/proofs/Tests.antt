@@ -1,10 +1,10 @@
 -- Laws of Boolean tests: going by cases, and what a conjunction or a disjunction tells.
-use mathlib.Core.Path.{_≡_, refl, sym, _∙_}
+use mathlib.Core.Path.{_≡_, refl, sym, ap, _∙_}
 use mathlib.Core.Logic.{_⊎_, ⊎-elim}
 use Prim.Native.Nat.{ℕ, _*_}
 use native.Mathlib.Nat.{one-mul, zero-mul}
 use native.Mathlib.Omega.{arith}
-use mathlib.Core.Bool.{Bool, true, false, _&&_, _||_, Bool·beq, true≢false, not, cond, or-false}
+use mathlib.Core.Bool.{Bool, true, false, _&&_, _||_, Bool·beq, true≢false, not, cond, and-assoc, and-comm, or-false}
 use Rattle.lists.specs.Lists.{bit}
 
 pub cases {ℓ} : {P : Type ℓ} (b : Bool) → (b ≡ true → P) → (b ≡ false → P) → P
@@ -24,6 +24,10 @@ and-left false b e = e
 pub and-right : (a b : Bool) → (a && b) ≡ true → b ≡ true
 and-right true b e = e
 and-right false b e = clash true refl (sym e)
+
+-- the middle two of four exchanged
+pub and-swap : (a b x y : Bool) → (a && x && (b && y)) ≡ (a && b && (x && y))
+and-swap a b x y = simp and-assoc (ap (a &&_) (sym (and-assoc x b y) ∙ ap (_&& y) (and-comm x b) ∙ and-assoc b x y))
 
 pub or-left : (a b : Bool) → (a || b) ≡ false → a ≡ false
 or-left true b e = e

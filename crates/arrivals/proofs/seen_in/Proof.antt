@@ -1,5 +1,5 @@
 use mathlib.Core.Path.{_≡_, refl, sym, ap, _∙_, subst}
-use mathlib.Core.Bool.{Bool, true, false, not, _&&_, _||_, or-true, or-false, and-false}
+use mathlib.Core.Bool.{Bool, true, false, not, _&&_, _||_, and-assoc, and-false, or-true, or-false}
 use mathlib.Core.List.{List, [], _∷_, _++_}
 use Prim.Native.Nat.{ℕ, _-_, _%_, _≤_}
 use native.Mathlib.Omega.{arith}
@@ -9,7 +9,7 @@ use lib.ListN.{length, take, getD, set, length-set}
 use lib.Seq.{set-getD}
 use lib.Dec.{ltb}
 use Rattle.lists.specs.Lists.{all, elem, distinct}
-use Rattle.lists.proofs.Tests.{cases}
+use Rattle.lists.proofs.Tests.{cases, and-swap}
 use Rattle.lists.proofs.Filter.{getD-replicated}
 use Rattle.lists.proofs.Loops.{take-next, all-snoc, elem-last, elem-before, distinct-snoc}
 use Rattle.arrivals.specs.Sizes.{threads}
@@ -57,13 +57,6 @@ add-i c = omega arith
 loop-less : tie.Need-loop-less Inv-loop μ-loop
 loop-less c = omega arith
 
-regroup : (n d low m : Bool) → (n && d && low && not m) ≡ (n && low && (d && not m))
-regroup true true true m = refl
-regroup true true false m = refl
-regroup true false true m = refl
-regroup true false false m = refl
-regroup false d low m = refl
-
 -- one turn: an entry x, at the index j
 module _ (l : List ℕ) (ok : Bool) (marks : List Bool) (x j : ℕ) (g : SeenIn l ok marks) (size : length marks ≡ threads) (is : j ≡ x % threads) where
   at-low : ltb x threads ≡ true → j ≡ x
@@ -76,7 +69,8 @@ module _ (l : List ℕ) (ok : Bool) (marks : List Bool) (x j : ℕ) (g : SeenIn 
   sound-next = cases (ltb x threads)
       (λ e.
       let mark : flagged marks j ≡ elem x l = ap (flagged marks) (at-low e) ∙ g .marked x (ltb-true x threads e) in
-      cc (g .sound, entries, distinct-snoc l x, regroup (all (λ t. ltb t threads) l) (distinct l) (ltb x threads) (elem x l)))
+      let low = all (λ t. ltb t threads) l in
+      cc (g .sound, entries, distinct-snoc l x, and-assoc (low && distinct l) (ltb x threads) (not (elem x l)), and-swap low (ltb x threads) (distinct l) (not (elem x l))))
       (λ e. rw (entries, e, and-false ok, and-false (all (λ t. ltb t threads) l)))
 
   -- a thread number is marked, and nothing else is
