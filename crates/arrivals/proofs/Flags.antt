@@ -8,8 +8,7 @@ use lib.ListN.{length, set}
 use lib.Seq.{getD-set-same, getD-set-other}
 use lib.Dec.{eqb}
 use borrow.Author.Tests.{eqb-true, eqb-false}
-use Rattle.lists.proofs.Tests.{cases}
-use Rattle.lists.proofs.Occurs.{lt-of-le-ne}
+use Rattle.lists.proofs.Tests.{cases, lt-of-le-ne}
 use Rattle.arrivals.specs.Arrivals.{flagged}
 
 -- one flag more: it is stored, and the others stay

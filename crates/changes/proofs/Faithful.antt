@@ -1,18 +1,17 @@
 -- The bytes of tables stand for these tables, where each number fits its field.
 use mathlib.Core.Path.{_≡_, refl, sym, ap, _∙_}
 use mathlib.Core.Bool.{Bool, true, false}
-use mathlib.Core.List.{List, [], _∷_, map}
-use Prim.Native.Nat.{ℕ, zero, suc, _+_, _*_, _^_, _≤_, _<_}
+use mathlib.Core.List.{List, [], map}
+use Prim.Native.Nat.{ℕ, _+_, _*_, _^_, _≤_, _<_}
 use native.Mathlib.Omega.{arith}
-use native.Mathlib.Nat.{mul-zero, mul-suc}
 use lib.ListN.{length, take, drop, getD}
-use lib.Seq.{take-at, drop-append-add, drop-cons, ext-getD}
+use lib.Seq.{drop-cons, ext-getD}
 use lib.Dec.{eqb}
 use borrow.Author.Tests.{eq-eqb, le-leb}
 use Rattle.lists.specs.Lists.{everyBelow, bit, tabulate}
 use Rattle.lists.specs.LittleEndian.{le, bytes, numberAt}
-use Rattle.lists.proofs.LittleEndian.{length-bytes, le-bytes}
-use Rattle.lists.proofs.Occurs.{bit-le}
+use Rattle.lists.proofs.LittleEndian.{le-bytes}
+use Rattle.lists.proofs.Tests.{bit-le}
 use Rattle.lists.proofs.Count.{everyBelow-intro}
 use Rattle.lists.proofs.Tabulate.{length-tabulate, getD-tabulate}
 use Rattle.tables.specs.declared.State.{State}
@@ -21,20 +20,11 @@ use Rattle.tables.specs.declared.LastAnswer.the-variants.{NoneYet}
 use Rattle.tables.specs.Sizes.{threads, wordBytes}
 use Rattle.tables.specs.Tables.{running, threadOf}
 use Rattle.layout.specs.Layout.{timeBytes, column, columns, concat, lastByte, maxLast, lastOf, waitingByte, timedByte, tablesBytes, tablesAt, stateAt, threadAt, tablesSize, flagsOk, clockAt, waitingAt, timedAt, lastAt, uaddrAt, bitsetAt, deadlineAt}
-use Rattle.layout.proofs.Columns.{length-column, before, get-column}
+use Rattle.layout.proofs.Columns.{length-column, entry-read, before, get-column, column-read}
 use Rattle.layout.proofs.Exact.{sizes, last-low, last-back}
 use Rattle.changes.specs.Change.{Whole, Stands, Fits}
 use Rattle.changes.proofs.Writing.{sized}
-use Rattle.changes.proofs.Standing.{whole, column-read, size-held, list-held, count-held}
-
--- a number of a column
-pub entry-read : {A : Type 0} (w : ℕ) (f : A → ℕ) (xs : List A) (i : ℕ) (d : A) → i < length xs
-    → take w (drop (w * i) (column w f xs)) ≡ bytes w (f (getD xs i d))
-entry-read w f [] i d h = absurd (omega arith)
-entry-read w f (x ∷ xs) zero d h = rw mul-zero (take-at (bytes w (f x)) (column w f xs) w (length-bytes w (f x)))
-entry-read w f (x ∷ xs) (suc i) d h =
-    let place : w * suc i ≡ length (bytes w (f x)) + w * i = rw (length-bytes w (f x), mul-suc) (omega arith) in
-    rw place (ap (take w) (drop-append-add (bytes w (f x)) (column w f xs) (w * i)) ∙ entry-read w f xs i d (omega arith))
+use Rattle.changes.proofs.Standing.{whole, size-held, list-held, count-held}
 
 waits : (x : Bool) → eqb (bit x) 1 ≡ x
 waits true = refl

@@ -9,8 +9,8 @@ use lib.ListN.{length}
 use lib.Dec.{eqb}
 use borrow.Author.Tests.{eqb-true, ne-eqb}
 use Rattle.lists.specs.Lists.{filter, elem, bit, everyBelow, countBelow}
-use Rattle.lists.proofs.Tests.{cases, and-intro, and-left, and-right, and-swap}
-use Rattle.lists.proofs.Occurs.{occurs, bit-le, eqb-refl, lt-of-le-ne, elem-occurs, elem-filter, occurs-once, occurs-filtered-out, occurs-filter-le}
+use Rattle.lists.proofs.Tests.{cases, and-intro, and-left, and-right, and-swap, bit-le, eqb-refl, lt-of-le-ne}
+use Rattle.lists.proofs.Occurs.{occurs, elem-occurs, elem-filter, occurs-once, occurs-filtered-out, occurs-filter-le}
 
 pub everyBelow-intro : (n : ℕ) (f : ℕ → Bool) → ((t : ℕ) → t < n → f t ≡ true) → everyBelow n f ≡ true
 unfolding everyBelow
@@ -24,7 +24,7 @@ everyBelow-at (suc n) f h t l = cases (eqb t n)
     (λ e. rw (eqb-true t n e) (and-right (everyBelow n f) (f n) h))
     (λ e. everyBelow-at n f (and-left (everyBelow n f) (f n) h) t (lt-of-le-ne t n (omega arith) e))
 
-pub everyBelow-next : (n : ℕ) (f : ℕ → Bool) → everyBelow (n + 1) f ≡ (everyBelow n f && f n)
+everyBelow-next : (n : ℕ) (f : ℕ → Bool) → everyBelow (n + 1) f ≡ (everyBelow n f && f n)
 everyBelow-next n f = rw (add-one n) (unfold everyBelow in refl)
 
 pub everyBelow-ext : (n : ℕ) (f g : ℕ → Bool) → ((t : ℕ) → t < n → f t ≡ g t) → everyBelow n f ≡ everyBelow n g

@@ -14,6 +14,10 @@ sets-append l i (v ∷ vs) ws =
     let e : i + suc (length vs) ≡ suc i + length vs = omega arith in
     rw e (sets-append (set l i v) (suc i) vs ws)
 
+-- stores that are made, and those that are left
+pub sets-on : {A : Type 0} (x y vs rest : List A) (k n : ℕ) → y ≡ sets x k vs → length vs ≡ n → sets x k (vs ++ rest) ≡ sets y (k + n) rest
+sets-on x y vs rest k n e d = sym (sets-append x k vs rest) ∙ rw (d, e)
+
 -- a list joined from two: stores in the one, or in the other
 sets-cons : {A : Type 0} (x : A) (xs : List A) (i : ℕ) (vs : List A) → sets (x ∷ xs) (suc i) vs ≡ x ∷ sets xs i vs
 sets-cons x xs i [] = refl

@@ -6,7 +6,7 @@ use native.Mathlib.Omega.{arith}
 use lib.ListN.{length, set, length-set}
 use lib.Seq.{sets}
 use Rattle.lists.specs.Lists.{bit}
-use Rattle.lists.proofs.Occurs.{bit-le}
+use Rattle.lists.proofs.Tests.{bit-le}
 use Rattle.lists.specs.LittleEndian.{bytes}
 use Rattle.tables.specs.declared.LastAnswer.{LastAnswer}
 use Rattle.tables.specs.Sizes.{wordBytes}
