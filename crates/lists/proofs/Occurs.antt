@@ -1,6 +1,6 @@
 -- How often a number stands in a list: 0 or 1 for each number says both that no number stands there twice and which stand there.
-use mathlib.Core.Path.{_≡_, refl, sym, ap}
-use mathlib.Core.Bool.{Bool, true, false, not, _||_}
+use mathlib.Core.Path.{_≡_, refl, sym, ap, _∙_}
+use mathlib.Core.Bool.{Bool, true, false, not, _||_, or-false}
 use mathlib.Core.List.{List, [], _∷_, _++_}
 use Prim.Native.Nat.{ℕ, suc, zero, _+_, _≤_, _<_}
 use native.Mathlib.Omega.{arith}
@@ -150,4 +150,4 @@ filter-same t (x ∷ xs) =
 
 -- a list of one number
 pub elem-one : (u t : ℕ) → elem u (t ∷ []) ≡ true → u ≡ t
-elem-one u t e = eqb-true u t (cases (eqb u t) (λ k. k) (λ k. clash (elem u (t ∷ [])) e (rw k)))
+elem-one u t e = eqb-true u t (sym (or-false (eqb u t)) ∙ e)

@@ -1,12 +1,12 @@
 -- Laws of Boolean tests: going by cases, what a conjunction or a disjunction tells, a test as a number, and tests of two numbers.
 use mathlib.Core.Path.{_≡_, refl, sym, ap, _∙_}
 use mathlib.Core.Logic.{_⊎_, ⊎-elim}
-use Prim.Native.Nat.{ℕ, suc, _*_, _≤_, _<_}
+use Prim.Native.Nat.{ℕ, _*_, _≤_, _<_}
 use native.Mathlib.Nat.{one-mul, zero-mul}
 use native.Mathlib.Omega.{arith}
 use mathlib.Core.Bool.{Bool, true, false, _&&_, _||_, Bool·beq, true≢false, not, cond, and-assoc, and-comm, or-false}
-use lib.Dec.{eqb, leb}
-use borrow.Author.Tests.{eqb-true, eqb-false, eq-eqb, ne-eqb, leb-true, leb-false}
+use lib.Dec.{eqb}
+use borrow.Author.Tests.{eqb-true, eqb-false, eq-eqb, ne-eqb}
 use Rattle.lists.specs.Lists.{bit}
 
 pub cases {ℓ} : {P : Type ℓ} (b : Bool) → (b ≡ true → P) → (b ≡ false → P) → P
@@ -95,6 +95,4 @@ eqb-sym a b = cases (eqb a b)
     (λ e. rw e (sym (ne-eqb b a (λ d. eqb-false a b e (sym d)))))
 
 pub lt-of-le-ne : (n t : ℕ) → n ≤ t → eqb n t ≡ false → n < t
-lt-of-le-ne n t h e =
-    let k = eqb-false n t e in
-    cases (leb (suc n) t) (λ d. leb-true (suc n) t d) (λ d. absurd (k (let j = leb-false (suc n) t d in omega arith)))
+lt-of-le-ne n t h e = let k = eqb-false n t e in omega arith
