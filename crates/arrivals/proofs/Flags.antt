@@ -8,8 +8,7 @@ use lib.ListN.{length, set}
 use lib.Seq.{getD-set-same, getD-set-other}
 use lib.Dec.{eqb}
 use borrow.Author.Tests.{eqb-true, eqb-false}
-use Rattle.lists.proofs.Tests.{cases}
-use Rattle.lists.proofs.Occurs.{lt-of-le-ne}
+use Rattle.lists.proofs.Tests.{cases, lt-of-le-ne}
 use Rattle.arrivals.specs.Arrivals.{flagged}
 
 -- one flag more: it is stored, and the others stay
@@ -19,15 +18,13 @@ flag-here flags t v h = getD-set-same flags t v false h
 pub flag-there : (flags : List Bool) (t u : ℕ) (v : Bool) → (u ≡ t → ⊥) → flagged (set flags t v) u ≡ flagged flags u
 flag-there flags t u v apart = getD-set-other flags t u v false apart
 
-pub flags-next : (flags : List Bool) (f : ℕ → Bool) (i : ℕ) (v : Bool) → i < length flags → ((t : ℕ) → t < i → flagged flags t ≡ f t) → v ≡ f i
-    → (t : ℕ) → t < i + 1 → flagged (set flags i v) t ≡ f t
-flags-next flags f i v h done is t l = cases (eqb t i)
-    (λ e. rw (eqb-true t i e) (flag-here flags i v h ∙ is))
-    (λ e. let apart = eqb-false t i e in flag-there flags i t v apart ∙ done t (lt-of-le-ne t i (omega arith) e))
-
 -- one flag stored, where the others say already what they are to say
 pub flags-set : (flags : List Bool) (f : ℕ → Bool) (i : ℕ) (v : Bool) → i < length flags → v ≡ f i
     → (t : ℕ) → (eqb t i ≡ false → flagged flags t ≡ f t) → flagged (set flags i v) t ≡ f t
 flags-set flags f i v h is t old = cases (eqb t i)
     (λ e. rw (eqb-true t i e) (flag-here flags i v h ∙ is))
     (λ e. flag-there flags i t v (eqb-false t i e) ∙ old e)
+
+pub flags-next : (flags : List Bool) (f : ℕ → Bool) (i : ℕ) (v : Bool) → i < length flags → ((t : ℕ) → t < i → flagged flags t ≡ f t) → v ≡ f i
+    → (t : ℕ) → t < i + 1 → flagged (set flags i v) t ≡ f t
+flags-next flags f i v h done is t l = flags-set flags f i v h is t (λ e. done t (lt-of-le-ne t i (omega arith) e))

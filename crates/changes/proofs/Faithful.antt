@@ -1,60 +1,34 @@
 -- The bytes of tables stand for these tables, where each number fits its field.
 use mathlib.Core.Path.{_≡_, refl, sym, ap, _∙_}
 use mathlib.Core.Bool.{Bool, true, false}
-use mathlib.Core.List.{List, [], _∷_, map}
-use Prim.Native.Nat.{ℕ, zero, suc, _+_, _*_, _^_, _≤_, _<_}
+use mathlib.Core.List.{List, [], map}
+use Prim.Native.Nat.{ℕ, _+_, _*_, _^_, _≤_, _<_}
 use native.Mathlib.Omega.{arith}
-use native.Mathlib.Nat.{mul-zero, mul-suc}
 use lib.ListN.{length, take, drop, getD}
-use lib.Seq.{take-at, drop-append-add, drop-cons, ext-getD}
+use lib.Seq.{drop-cons, ext-getD}
 use lib.Dec.{eqb}
 use borrow.Author.Tests.{eq-eqb, le-leb}
 use Rattle.lists.specs.Lists.{everyBelow, bit, tabulate}
 use Rattle.lists.specs.LittleEndian.{le, bytes, numberAt}
-use Rattle.lists.proofs.LittleEndian.{length-bytes, le-bytes}
-use Rattle.lists.proofs.Occurs.{bit-le}
+use Rattle.lists.proofs.LittleEndian.{le-bytes}
+use Rattle.lists.proofs.Tests.{bit-le}
 use Rattle.lists.proofs.Count.{everyBelow-intro}
 use Rattle.lists.proofs.Tabulate.{length-tabulate, getD-tabulate}
 use Rattle.tables.specs.declared.State.{State}
 use Rattle.tables.specs.declared.Thread.{Thread}
-use Rattle.tables.specs.declared.LastAnswer.{LastAnswer}
-use Rattle.tables.specs.declared.LastAnswer.the-variants.{NoneYet, Woken, TimedOut, Interrupted}
+use Rattle.tables.specs.declared.LastAnswer.the-variants.{NoneYet}
 use Rattle.tables.specs.Sizes.{threads, wordBytes}
 use Rattle.tables.specs.Tables.{running, threadOf}
 use Rattle.layout.specs.Layout.{timeBytes, column, columns, concat, lastByte, maxLast, lastOf, waitingByte, timedByte, tablesBytes, tablesAt, stateAt, threadAt, tablesSize, flagsOk, clockAt, waitingAt, timedAt, lastAt, uaddrAt, bitsetAt, deadlineAt}
-use Rattle.layout.proofs.Columns.{length-column, before, get-column}
-use Rattle.layout.proofs.Exact.{sizes}
+use Rattle.layout.proofs.Columns.{length-column, entry-read, before, get-column, column-read}
+use Rattle.layout.proofs.Exact.{sizes, last-low, last-back}
 use Rattle.changes.specs.Change.{Whole, Stands, Fits}
 use Rattle.changes.proofs.Writing.{sized}
-use Rattle.changes.proofs.Standing.{whole, column-read, size-held, list-held, count-held}
-
--- a number of a column
-pub entry-read : {A : Type 0} (w : ℕ) (f : A → ℕ) (xs : List A) (i : ℕ) (d : A) → i < length xs
-    → take w (drop (w * i) (column w f xs)) ≡ bytes w (f (getD xs i d))
-entry-read w f [] i d h = absurd (omega arith)
-entry-read w f (x ∷ xs) zero d h = rw mul-zero (take-at (bytes w (f x)) (column w f xs) w (length-bytes w (f x)))
-entry-read w f (x ∷ xs) (suc i) d h =
-    let place : w * suc i ≡ length (bytes w (f x)) + w * i = rw (length-bytes w (f x), mul-suc) (omega arith) in
-    rw place (ap (take w) (drop-append-add (bytes w (f x)) (column w f xs) (w * i)) ∙ entry-read w f xs i d (omega arith))
+use Rattle.changes.proofs.Standing.{whole, size-held, list-held, count-held}
 
 waits : (x : Bool) → eqb (bit x) 1 ≡ x
 waits true = refl
 waits false = refl
-
-flag-low : (x : Bool) → bit x < 256 ^ 1
-flag-low x = omega (arith, bit-le x)
-
-last-back : (a : LastAnswer) → lastOf (lastByte a) ≡ a
-last-back NoneYet = refl
-last-back Woken = refl
-last-back TimedOut = refl
-last-back Interrupted = refl
-
-last-low : (a : LastAnswer) → (lastByte a < 256 ^ 1) × (lastByte a ≤ maxLast)
-last-low NoneYet = (omega arith, omega arith)
-last-low Woken = (omega arith, omega arith)
-last-low TimedOut = (omega arith, omega arith)
-last-low Interrupted = (omega arith, omega arith)
 
 module _ (s : State) (b : List ℕ) (h : Stands s b) (fit : Fits s) where
   abbrev shape : Whole s
@@ -79,13 +53,25 @@ module _ (s : State) (b : List ℕ) (h : Stands s b) (fit : Fits s) where
       let one : numberAt 1 (at + i) b ≡ getD b (at + i) 0 = rw (drop-cons b (at + i) 0 (omega (arith, size-held s b h))) (omega arith) in
       sym one ∙ number-read j 1 at f place is i low small (at + i) (omega arith) (omega arith)
 
+  -- the three flags of a thread
+  flags-read : (i : ℕ) → i < threads
+      → let r = threadOf s i in
+      (getD b (waitingAt + i) 0 ≡ waitingByte r) × (getD b (timedAt + i) 0 ≡ timedByte r) × (getD b (lastAt + i) 0 ≡ lastByte (r .last))
+  flags-read i low =
+      let r = threadOf s i in (
+        byte-read 3 waitingAt waitingByte refl (omega arith) refl i low (omega (arith, bit-le (r .waiting))),
+        byte-read 4 timedAt timedByte refl (omega arith) refl i low (omega (arith, bit-le (r .timed))),
+        byte-read 5 lastAt (λ q. lastByte (q .last)) refl (omega arith) refl i low (omega (arith, last-low (r .last))),
+      )
+
   thread-back : (i : ℕ) → i < threads → threadAt b i ≡ threadOf s i
   thread-back i low =
       let r = threadOf s i in
       let g = fit .records i low in
-      let waiting = ap (λ n. eqb n 1) (byte-read 3 waitingAt waitingByte refl (omega arith) refl i low (flag-low (r .waiting))) ∙ waits (r .waiting) in
-      let timed = ap (λ n. eqb n 1) (byte-read 4 timedAt timedByte refl (omega arith) refl i low (flag-low (r .timed))) ∙ waits (r .timed) in
-      let last = ap lastOf (byte-read 5 lastAt (λ q. lastByte (q .last)) refl (omega arith) refl i low (last-low (r .last) .0)) ∙ last-back (r .last) in
+      let f = flags-read i low in
+      let waiting = ap (λ n. eqb n 1) (f .0) ∙ waits (r .waiting) in
+      let timed = ap (λ n. eqb n 1) (f .1) ∙ waits (r .timed) in
+      let last = ap lastOf (f .2) ∙ last-back (r .last) in
       let uaddr = number-read 6 wordBytes uaddrAt (λ q. q .uaddr) refl refl i low (g .uaddr) (uaddrAt + wordBytes * i) refl (omega arith) in
       let bitset = number-read 7 wordBytes bitsetAt (λ q. q .bitset) refl refl i low (g .bitset) (bitsetAt + wordBytes * i) refl (omega arith) in
       let deadline = number-read 8 timeBytes deadlineAt (λ q. q .deadline) refl refl i low (g .deadline) (deadlineAt + timeBytes * i) refl (omega arith) in
@@ -106,10 +92,12 @@ module _ (s : State) (b : List ℕ) (h : Stands s b) (fit : Fits s) where
   flags-held : everyBelow threads (flagsOk b) ≡ true
   flags-held = everyBelow-intro threads (flagsOk b)
       (λ i low. let r = threadOf s i in
-      let w = byte-read 3 waitingAt waitingByte refl (omega arith) refl i low (flag-low (r .waiting)) in
-      let t = byte-read 4 timedAt timedByte refl (omega arith) refl i low (flag-low (r .timed)) in
-      let a = byte-read 5 lastAt (λ q. lastByte (q .last)) refl (omega arith) refl i low (last-low (r .last) .0) in
-      rw (le-leb (getD b (waitingAt + i) 0) 1 (omega (arith, w, bit-le (r .waiting))), le-leb (getD b (timedAt + i) 0) 1 (omega (arith, t, bit-le (r .timed))), le-leb (getD b (lastAt + i) 0) maxLast (omega (arith, a, last-low (r .last) .1))))
+      let f = flags-read i low in
+      rw (
+        le-leb (getD b (waitingAt + i) 0) 1 (omega (arith, f .0, bit-le (r .waiting))),
+        le-leb (getD b (timedAt + i) 0) 1 (omega (arith, f .1, bit-le (r .timed))),
+        le-leb (getD b (lastAt + i) 0) maxLast (omega (arith, f .2, last-low (r .last))),
+      ))
 
   pub tables-back : tablesAt b ≡ s
   unfolding tablesAt

@@ -1,62 +1,23 @@
 -- What is read from the bytes of tables that keep the rules.
-use mathlib.Core.Path.{_≡_, refl, sym, ap, _∙_}
-use mathlib.Core.Bool.{Bool, true, false, _&&_}
-use mathlib.Core.List.{List, [], _∷_, map}
-use Prim.Native.Nat.{ℕ, _+_, _≤_}
+use mathlib.Core.Path.{_≡_, refl, ap, _∙_}
+use mathlib.Core.Bool.{true}
+use mathlib.Core.List.{List}
+use Prim.Native.Nat.{ℕ}
 use native.Mathlib.Omega.{arith}
-use native.Mathlib.Nat.{add-zero}
-use lib.ListN.{length, take, drop, getD, length-append}
-use lib.Seq.{take-all}
-use lib.Dec.{eqb}
-use borrow.Author.Tests.{eqb-true, leb-true}
-use Rattle.lists.specs.Lists.{distinct}
+use lib.ListN.{length, take, drop}
 use Rattle.lists.specs.LittleEndian.{le, bytes, numberAt}
-use Rattle.lists.proofs.Tests.{and-left, and-right}
 use Rattle.lists.proofs.LittleEndian.{le-bytes}
 use Rattle.tables.specs.declared.State.{State}
 use Rattle.tables.specs.Sizes.{threads}
-use Rattle.tables.specs.Tables.{arrivals, sizesOk, countOk, numbersOk, exactOk, tailOk, recordsOk, tablesOk}
-use Rattle.layout.specs.Layout.{timeBytes, columns, concat, tablesBytes, tablesSize, countAt, listAt}
+use Rattle.tables.specs.Tables.{tablesOk}
+use Rattle.tables.proofs.Sound.{tables-sound, entries, few}
+use Rattle.layout.specs.Layout.{timeBytes, columns, tablesBytes, tablesSize, countAt, listAt}
 use Rattle.changes.specs.Change.{Whole, Stands}
-use Rattle.layout.proofs.Columns.{before, total, get-column}
-use Rattle.layout.proofs.Exact.{sizes}
+use Rattle.layout.proofs.Columns.{total, length-concat, column-read}
 use Rattle.changes.proofs.Writing.{sized}
 
-first-of : (a b c d e f g : Bool) → (a && b && c && d && e && f && g) ≡ true → a ≡ true
-first-of true b c d e f g h = refl
-first-of false b c d e f g h = h
-
-second-of : (a b c d e f g : Bool) → (a && b && c && d && e && f && g) ≡ true → b ≡ true
-second-of a true c d e f g h = refl
-second-of true false c d e f g h = h
-second-of false false c d e f g h = h
-
-module _ (s : State) (ok : tablesOk s ≡ true) where
-  pub whole : Whole s
-  unfolding tablesOk
-  whole =
-      let both = first-of (sizesOk s) (countOk s) (numbersOk s) (distinct (arrivals s)) (exactOk s) (tailOk s) (recordsOk s) ok in
-      let a = eqb (length (s .threads)) threads in
-      let b = eqb (length (s .list)) threads in
-      record { records = eqb-true (length (s .threads)) threads (and-left a b both); entries = eqb-true (length (s .list)) threads (and-right a b both) }
-
-  pub few : s .count ≤ threads
-  unfolding tablesOk
-  few = leb-true (s .count) threads (second-of (sizesOk s) (countOk s) (numbersOk s) (distinct (arrivals s)) (exactOk s) (tailOk s) (recordsOk s) ok)
-
-length-concat : (cs : List (List ℕ)) → length (concat cs) ≡ total (map length cs)
-length-concat [] = refl
-length-concat (c ∷ cs) = length-append c (concat cs) ∙ ap (λ n. length c + n) (length-concat cs)
-
--- a whole column
-pub column-read : (cs : List (List ℕ)) → map length cs ≡ sizes → (j at w : ℕ) (c : List ℕ) → before j sizes ≡ at → getD cs j [] ≡ c → length c ≡ w
-    → take w (drop at (concat cs)) ≡ c
-column-read cs size j at w c place is long =
-    let here : at ≡ before j (map length cs) + 0 = sym place ∙ ap (before j) (sym size) ∙ sym (add-zero (before j (map length cs))) in
-    ap (λ n. take w (drop n (concat cs))) here
-    ∙ get-column cs j 0 w (omega (arith, ap length is, long))
-    ∙ ap (take w) is
-    ∙ take-all w c (omega (arith, long))
+pub whole : (s : State) → tablesOk s ≡ true → Whole s
+whole s ok = let g = tables-sound s ok in record { records = g .records; entries = entries s g }
 
 module _ (s : State) (b : List ℕ) (h : Stands s b) where
   abbrev shape : Whole s
@@ -75,4 +36,4 @@ module _ (s : State) (b : List ℕ) (h : Stands s b) where
   count-held =
       ap (λ l. le (take timeBytes (drop countAt l))) (h .bytes)
       ∙ ap le (column-read (columns s) (sized s shape) 1 countAt timeBytes (bytes timeBytes (s .count)) refl refl refl)
-      ∙ le-bytes timeBytes (s .count) (omega (arith, few s (h .sound)))
+      ∙ le-bytes timeBytes (s .count) (omega (arith, few s (tables-sound s (h .sound))))

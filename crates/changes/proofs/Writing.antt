@@ -7,6 +7,7 @@ use lib.ListN.{length, getD, set}
 use lib.Seq.{sets, length-sets}
 use Rattle.lists.specs.LittleEndian.{bytes}
 use Rattle.lists.proofs.Stores.{sets-all}
+use Rattle.lists.proofs.LittleEndian.{length-bytes}
 use Rattle.tables.specs.declared.State.{State}
 use Rattle.tables.specs.declared.Thread.{Thread}
 use Rattle.tables.specs.declared.LastAnswer.the-variants.{NoneYet}
@@ -58,41 +59,23 @@ module _ (s : State) (w : Whole s) where
     new : (n : ℕ) (f : Thread → ℕ) → sets (column n f (s .threads)) (n * i) (bytes n (f r)) ≡ column n f (set (s .threads) i r)
     new n f = sym (column-set n f (s .threads) i r (omega (arith, w .records)))
 
-    abbrev ts : List Thread
-    ts = s .threads
-
-    abbrev us : List Thread
-    us = set (s .threads) i r
-
-    -- the tables in columns, each of these or of those records
-    abbrev half : List Thread → List Thread → List Thread → List Thread → List Thread → List Thread → List (List ℕ)
-    half x3 x4 x5 x6 x7 x8 =
-        bytes timeBytes (s .clock) ∷ bytes timeBytes (s .count) ∷ s .list ∷ column 1 waitingByte x3 ∷ column 1 timedByte x4 ∷ column 1 (λ q. lastByte (q .last)) x5
-        ∷ column wordBytes (λ q. q .uaddr) x6 ∷ column wordBytes (λ q. q .bitset) x7 ∷ column timeBytes (λ q. q .deadline) x8 ∷ []
+    -- one field stored is one column of the changed records
+    field : (cs : List (List ℕ)) (b : List ℕ) (j n : ℕ) (f : Thread → ℕ) (at : ℕ) → InColumns b cs → getD cs j [] ≡ column n f (s .threads)
+        → before j sizes + n * i ≡ at → n * i + n ≤ getD sizes j 0 → InColumns (sets b at (bytes n (f r))) (set cs j (column n f (set (s .threads) i r)))
+    field cs b j n f at c is place fits =
+        put b cs _ c j (n * i) at (bytes n (f r)) place (rw length-bytes fits) _ (ap (λ l. sets l (n * i) (bytes n (f r))) is ∙ new n f) refl
 
     pub thread-put : (b : List ℕ) → b ≡ tablesBytes s
         → sets (sets (sets (sets (sets (sets b (waitingAt + i) (bytes 1 (waitingByte r))) (timedAt + i) (bytes 1 (timedByte r))) (lastAt + i) (bytes 1 (lastByte (r .last)))) (uaddrAt + wordBytes * i) (bytes wordBytes (r .uaddr))) (bitsetAt + wordBytes * i) (bytes wordBytes (r .bitset))) (deadlineAt + timeBytes * i) (bytes timeBytes (r .deadline))
         ≡ tablesBytes (withThreads (set (s .threads) i r) s)
     unfolding tablesBytes
-    thread-put b is = p8 (p7 (p6 (p5 (p4 (p3 (record { stored = is; sized = sized })))))) .stored
-      where
-        p3 : {l : List ℕ} → InColumns l (half ts ts ts ts ts ts) → InColumns (sets l (waitingAt + i) (bytes 1 (waitingByte r))) (half us ts ts ts ts ts)
-        p3 {l} c = put l (half ts ts ts ts ts ts) (half us ts ts ts ts ts) c 3 (1 * i) (waitingAt + i) (bytes 1 (waitingByte r)) (omega arith) (omega arith) _ (new 1 waitingByte) refl
-
-        p4 : {l : List ℕ} → InColumns l (half us ts ts ts ts ts) → InColumns (sets l (timedAt + i) (bytes 1 (timedByte r))) (half us us ts ts ts ts)
-        p4 {l} c = put l (half us ts ts ts ts ts) (half us us ts ts ts ts) c 4 (1 * i) (timedAt + i) (bytes 1 (timedByte r)) (omega arith) (omega arith) _ (new 1 timedByte) refl
-
-        p5 : {l : List ℕ} → InColumns l (half us us ts ts ts ts) → InColumns (sets l (lastAt + i) (bytes 1 (lastByte (r .last)))) (half us us us ts ts ts)
-        p5 {l} c = put l (half us us ts ts ts ts) (half us us us ts ts ts) c 5 (1 * i) (lastAt + i) (bytes 1 (lastByte (r .last))) (omega arith) (omega arith) _ (new 1 (λ q. lastByte (q .last))) refl
-
-        p6 : {l : List ℕ} → InColumns l (half us us us ts ts ts) → InColumns (sets l (uaddrAt + wordBytes * i) (bytes wordBytes (r .uaddr))) (half us us us us ts ts)
-        p6 {l} c = put l (half us us us ts ts ts) (half us us us us ts ts) c 6 (wordBytes * i) (uaddrAt + wordBytes * i) (bytes wordBytes (r .uaddr)) (omega arith) (omega arith) _ (new wordBytes (λ q. q .uaddr)) refl
-
-        p7 : {l : List ℕ} → InColumns l (half us us us us ts ts) → InColumns (sets l (bitsetAt + wordBytes * i) (bytes wordBytes (r .bitset))) (half us us us us us ts)
-        p7 {l} c = put l (half us us us us ts ts) (half us us us us us ts) c 7 (wordBytes * i) (bitsetAt + wordBytes * i) (bytes wordBytes (r .bitset)) (omega arith) (omega arith) _ (new wordBytes (λ q. q .bitset)) refl
-
-        p8 : {l : List ℕ} → InColumns l (half us us us us us ts) → InColumns (sets l (deadlineAt + timeBytes * i) (bytes timeBytes (r .deadline))) (half us us us us us us)
-        p8 {l} c = put l (half us us us us us ts) (half us us us us us us) c 8 (timeBytes * i) (deadlineAt + timeBytes * i) (bytes timeBytes (r .deadline)) (omega arith) (omega arith) _ (new timeBytes (λ q. q .deadline)) refl
+    thread-put b is =
+        let c3 = field (columns s) b 3 1 waitingByte (waitingAt + i) (record { stored = is; sized = sized }) refl (omega arith) (omega arith) in
+        let c4 = field _ _ 4 1 timedByte (timedAt + i) c3 refl (omega arith) (omega arith) in
+        let c5 = field _ _ 5 1 (λ q. lastByte (q .last)) (lastAt + i) c4 refl (omega arith) (omega arith) in
+        let c6 = field _ _ 6 wordBytes (λ q. q .uaddr) (uaddrAt + wordBytes * i) c5 refl (omega arith) (omega arith) in
+        let c7 = field _ _ 7 wordBytes (λ q. q .bitset) (bitsetAt + wordBytes * i) c6 refl (omega arith) (omega arith) in
+        field _ _ 8 timeBytes (λ q. q .deadline) (deadlineAt + timeBytes * i) c7 refl (omega arith) (omega arith) .stored
 
   -- the address of a thread
   pub address-put : (i a : ℕ) → i < threads → (b : List ℕ) → b ≡ tablesBytes s
@@ -108,8 +91,7 @@ module _ (s : State) (w : Whole s) where
       let e5 = same 1 (λ q. lastByte (q .last)) refl in
       let e7 = same wordBytes (λ q. q .bitset) refl in
       let e8 = same timeBytes (λ q. q .deadline) refl in
-      put b (columns s) _ (record { stored = is; sized = sized }) 6 (wordBytes * i) (uaddrAt + wordBytes * i) (bytes wordBytes a) (omega arith) (omega arith)
-      (column wordBytes (λ q. q .uaddr) ts) (new i low r wordBytes (λ q. q .uaddr)) refl .stored
+      field i low r (columns s) b 6 wordBytes (λ q. q .uaddr) (uaddrAt + wordBytes * i) (record { stored = is; sized = sized }) refl (omega arith) (omega arith) .stored
       ∙ (λ j. concat (bytes timeBytes (s .clock) ∷ bytes timeBytes (s .count) ∷ s .list ∷ e3 j ∷ e4 j ∷ e5 j ∷ column wordBytes (λ q. q .uaddr) ts ∷ e7 j ∷ e8 j ∷ []))
 
   -- the list, or one entry of it, and the count

@@ -7,7 +7,7 @@ use lib.ListN.{length, take, drop}
 use Rattle.lists.specs.Lists.{filter, elem, without}
 use Rattle.lists.proofs.Tests.{cases, clash}
 use Rattle.lists.proofs.Filter.{filter-comm}
-use Rattle.lists.proofs.Loops.{without-taken, filter-leftOver}
+use Rattle.lists.proofs.LeftOver.{without-taken, filter-leftOver}
 use Rattle.tables.specs.declared.State.{State}
 use Rattle.tables.specs.declared.Taken.{Taken}
 use Rattle.tables.specs.declared.LastAnswer.{LastAnswer}

@@ -12,9 +12,9 @@ use lib.Seq.{take-all}
 use lib.Dec.{eqb, ltb, leb}
 use borrow.Author.Tests.{ltb-true, ltb-false, lt-leb, le-leb}
 use Rattle.lists.specs.Lists.{filter, bit}
-use Rattle.lists.proofs.Tests.{cases, clash, and-intro, and-left, and-right, bit-choice}
+use Rattle.lists.proofs.Tests.{cases, clash, and-intro, and-left, and-right, bit-choice, eqb-refl}
 use Rattle.lists.proofs.Filter.{length-filter, getD-replicated}
-use Rattle.lists.proofs.Occurs.{eqb-refl, filter-same}
+use Rattle.lists.proofs.Occurs.{filter-same}
 use Rattle.tables.specs.declared.State.{State}
 use Rattle.tables.specs.declared.Taken.{Taken}
 use Rattle.tables.specs.declared.LastAnswer.the-variants.{TimedOut, Interrupted}

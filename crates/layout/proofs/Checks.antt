@@ -1,6 +1,6 @@
 -- The passes over the bytes say that they stand for tables, and that these keep the rules.
 use mathlib.Core.Path.{_≡_, refl, sym, ap, _∙_}
-use mathlib.Core.Bool.{Bool, true, false, not, cond, _&&_, _||_, Bool·beq, and-true, and-false, or-true}
+use mathlib.Core.Bool.{Bool, true, false, not, cond, _&&_, _||_, Bool·beq, and-assoc, and-true, and-false, or-true}
 use mathlib.Core.List.{List}
 use Prim.Native.Nat.{ℕ, zero, suc, _+_, _≤_, _<_}
 use native.Mathlib.Omega.{arith}
@@ -44,8 +44,7 @@ flag-rules (suc zero) t l = sym (ap (λ b. leb t 1 && leb l maxLast && b) (or-tr
 flag-rules (suc (suc w)) t l = rw (lt-leb (suc (suc w)) 1 (omega arith))
 
 and-move : (f q p t : Bool) → (f && q && p && t) ≡ (f && (q && p && t))
-and-move true q p t = refl
-and-move false q p t = refl
+and-move f q p t = simp and-assoc
 
 regroup : (o t g m p q f r : Bool) → (g && p && q) ≡ (f && r) → (o && t && (g && m) && p && q) ≡ (f && (o && t && (m && r)))
 regroup false t g m p q f r e = sym (and-false f)

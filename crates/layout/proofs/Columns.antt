@@ -5,18 +5,16 @@ use Prim.Native.Nat.{ℕ, zero, suc, _+_, _*_, _≤_, _<_}
 use native.Mathlib.Omega.{arith}
 use native.Mathlib.Nat.{mul-zero, mul-suc, zero-add, add-zero, add-assoc}
 use lib.ListN.{length, take, drop, getD, set, length-append, length-drop}
-use lib.Seq.{sets, length-take-le, take-append-le, drop-append-le, drop-append-add, take-add, drop-drop}
+use lib.Seq.{sets, take-at, take-all, take-append-le, drop-append-le, drop-append-add, take-add, drop-drop}
 use Rattle.lists.specs.Lists.{tabulate}
 use Rattle.lists.specs.LittleEndian.{bytes, Bytes, numberAt}
 use Rattle.lists.proofs.Stores.{sets-left, sets-right, sets-all}
-use Rattle.lists.proofs.LittleEndian.{length-bytes, bytes-le, bytes-take, bytes-drop}
+use Rattle.lists.proofs.LittleEndian.{length-bytes, bytes-drop, bytes-read}
 use Rattle.layout.specs.Layout.{column, concat}
 
 -- bytes that are read as a number and written again
 pub exact : (b : List ℕ) → Bytes b → (w k : ℕ) → k + w ≤ length b → bytes w (numberAt w k b) ≡ take w (drop k b)
-exact b h w k fits =
-    let long : length (take w (drop k b)) ≡ w = length-take-le w (drop k b) (rw length-drop (omega arith)) in
-    ap (λ n. bytes n (numberAt w k b)) (sym long) ∙ bytes-le (take w (drop k b)) (bytes-take w (drop k b) (bytes-drop k b h))
+exact b h w k fits = bytes-read w (drop k b) (bytes-drop k b h) (rw length-drop (omega arith))
 
 -- numbers of width w behind each other
 module _ {A : Type 0} (w : ℕ) (f : A → ℕ) where
@@ -42,6 +40,14 @@ module _ {A : Type 0} (w : ℕ) (f : A → ℕ) where
   column-same [] i x d e = refl
   column-same (y ∷ xs) zero x d e = ap (λ n. bytes w n ++ column w f xs) e
   column-same (y ∷ xs) (suc i) x d e = ap (λ l. bytes w (f y) ++ l) (column-same xs i x d e)
+
+  -- a number of a column
+  pub entry-read : (xs : List A) (i : ℕ) (d : A) → i < length xs → take w (drop (w * i) (column w f xs)) ≡ bytes w (f (getD xs i d))
+  entry-read [] i d h = absurd (omega arith)
+  entry-read (x ∷ xs) zero d h = rw mul-zero (take-at (bytes w (f x)) (column w f xs) w (length-bytes w (f x)))
+  entry-read (x ∷ xs) (suc i) d h =
+      let place : w * suc i ≡ length (bytes w (f x)) + w * i = rw (length-bytes w (f x), mul-suc) (omega arith) in
+      rw place (ap (take w) (drop-append-add (bytes w (f x)) (column w f xs) (w * i)) ∙ entry-read xs i d (omega arith))
 
   -- a column that is read from bytes, number by number, is these bytes
   pub column-tabulate : (n k : ℕ) (g : ℕ → A) (b : List ℕ) → ((i : ℕ) → i < n → bytes w (f (g i)) ≡ take w (drop (k + w * i) b))
@@ -86,6 +92,16 @@ get-column (c ∷ cs) (suc j) k w h =
     ∙ ap (take w) (drop-append-add c (concat cs) (before j (map length cs) + k))
     ∙ get-column cs j k w h
 
+-- a whole column, of columns of these sizes
+pub column-read : (cs : List (List ℕ)) {ns : List ℕ} → map length cs ≡ ns → (j at w : ℕ) (c : List ℕ) → before j ns ≡ at → getD cs j [] ≡ c → length c ≡ w
+    → take w (drop at (concat cs)) ≡ c
+column-read cs size j at w c place is long =
+    let here : at ≡ before j (map length cs) + 0 = sym place ∙ ap (before j) (sym size) ∙ sym (add-zero (before j (map length cs))) in
+    ap (λ n. take w (drop n (concat cs))) here
+    ∙ get-column cs j 0 w (omega (arith, ap length is, long))
+    ∙ ap (take w) is
+    ∙ take-all w c (omega (arith, long))
+
 -- bytes cut into columns
 abbrev pub cuts : ℕ → List ℕ → List ℕ → List (List ℕ)
 cuts k [] b = []
@@ -94,6 +110,10 @@ cuts k (n ∷ ns) b = take n (drop k b) ∷ cuts (k + n) ns b
 abbrev pub total : List ℕ → ℕ
 total [] = 0
 total (n ∷ ns) = n + total ns
+
+pub length-concat : (cs : List (List ℕ)) → length (concat cs) ≡ total (map length cs)
+length-concat [] = refl
+length-concat (c ∷ cs) = length-append c (concat cs) ∙ ap (λ n. length c + n) (length-concat cs)
 
 pub concat-cuts : (k : ℕ) (ns b : List ℕ) → concat (cuts k ns b) ≡ take (total ns) (drop k b)
 concat-cuts k [] b = refl

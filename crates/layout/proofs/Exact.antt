@@ -13,6 +13,8 @@ use Rattle.lists.specs.LittleEndian.{bytes, Bytes, numberAt}
 use Rattle.lists.proofs.Tests.{and-left, and-right}
 use Rattle.lists.proofs.Count.{everyBelow-at}
 use Rattle.tables.specs.declared.Thread.{Thread}
+use Rattle.tables.specs.declared.LastAnswer.{LastAnswer}
+use Rattle.tables.specs.declared.LastAnswer.the-variants.{NoneYet, Woken, TimedOut, Interrupted}
 use Rattle.tables.specs.Sizes.{threads, wordBytes}
 use Rattle.layout.specs.Layout.{timeBytes, column, columns, concat, threadAt, stateAt, tablesBytes, tablesSize, lastByte, maxLast, lastOf, waitingByte, timedByte, flagsOk, clockAt, countAt, listAt, waitingAt, timedAt, lastAt, uaddrAt, bitsetAt, deadlineAt, wordsBytes, wordsOf}
 use Rattle.layout.proofs.Columns.{exact, column-tabulate, cuts, concat-cuts}
@@ -31,6 +33,19 @@ bit-of : (n : ℕ) → n ≤ 1 → bit (eqb n 1) ≡ n
 bit-of zero h = refl
 bit-of (suc zero) h = refl
 bit-of (suc (suc n)) h = absurd (omega arith)
+
+-- the byte of an answer
+pub last-low : (a : LastAnswer) → lastByte a ≤ maxLast
+last-low NoneYet = omega arith
+last-low Woken = omega arith
+last-low TimedOut = omega arith
+last-low Interrupted = omega arith
+
+pub last-back : (a : LastAnswer) → lastOf (lastByte a) ≡ a
+last-back NoneYet = refl
+last-back Woken = refl
+last-back TimedOut = refl
+last-back Interrupted = refl
 
 last-of : (n : ℕ) → n ≤ maxLast → lastByte (lastOf n) ≡ n
 last-of zero h = refl

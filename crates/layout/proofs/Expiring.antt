@@ -1,20 +1,18 @@
 -- The listed threads whose deadline has come are all whose deadline has come.
-use mathlib.Core.Path.{_≡_, sym, ap, _∙_}
-use mathlib.Core.Bool.{Bool, true, false, _&&_, or-true, or-false}
+use mathlib.Core.Path.{_≡_, ap, _∙_}
+use mathlib.Core.Bool.{Bool, _&&_}
 use mathlib.Core.List.{List, [], _∷_, _++_}
 use Prim.Native.Nat.{ℕ, _<_}
 use native.Mathlib.Omega.{arith}
 use lib.ListN.{length, set, length-set}
-use lib.Dec.{eqb}
-use borrow.Author.Tests.{eqb-true, eqb-false}
 use Rattle.lists.specs.Lists.{elem}
 use Rattle.lists.proofs.Tests.{cases}
-use Rattle.lists.proofs.Occurs.{eqb-refl, elem-append}
+use Rattle.lists.proofs.Loops.{elem-last, elem-before}
 use Rattle.tables.specs.declared.State.{State}
 use Rattle.tables.specs.Sizes.{threads}
 use Rattle.tables.specs.Tables.{threadOf, arrivals, expired}
 use Rattle.tables.specs.Steps.{Flags, flagged}
-use Rattle.tables.proofs.Flags.{flag-here, flag-there}
+use Rattle.tables.proofs.Flags.{flags-set}
 use Rattle.tables.proofs.Sound.{Sound, listed-waiting}
 
 -- the flags of the threads that a list names are filled, and no other is set
@@ -28,16 +26,9 @@ module _ (s : State) (time : ℕ) where
   marked-next l flags x v g low is =
       record {
         size = length-set flags x v ∙ g .size;
-        done = λ t h. cases (eqb t x)
-            (λ e. rw (eqb-true t x e) (flag-here flags x v (omega (arith, g .size)) ∙ is ∙ sym (ap (λ b. b && expired time (threadOf s x)) (here x))))
-            (λ e. flag-there flags x t v (eqb-false t x e) ∙ g .done t h ∙ sym (ap (λ b. b && expired time (threadOf s t)) (there t e)));
+        done = λ t h. flags-set flags (λ u. elem u (l ++ (x ∷ [])) && expired time (threadOf s u)) x v (omega (arith, g .size)) (is ∙ rw (elem-last l x)) t
+            (λ e. g .done t h ∙ rw (elem-before t l x e));
       }
-    where
-      here : (x : ℕ) → elem x (l ++ (x ∷ [])) ≡ true
-      here x = elem-append x l (x ∷ []) ∙ rw (eqb-refl x) (or-true (elem x l))
-
-      there : (t : ℕ) → eqb t x ≡ false → elem t (l ++ (x ∷ [])) ≡ elem t l
-      there t e = elem-append t l (x ∷ []) ∙ rw e (or-false (elem t l))
 
   pub marked-all : Sound s → (flags : List Bool) → Marked s time (arrivals s) flags → Flags flags (λ t. expired time (threadOf s t))
   marked-all g flags m t h =

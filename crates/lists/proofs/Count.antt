@@ -1,6 +1,6 @@
 -- Counting the numbers below a bound, and lists of different numbers below it.
 use mathlib.Core.Path.{_≡_, refl, sym, ap, _∙_}
-use mathlib.Core.Bool.{Bool, true, false, not, _&&_}
+use mathlib.Core.Bool.{Bool, true, not, _&&_}
 use mathlib.Core.List.{List, [], _∷_}
 use Prim.Native.Nat.{ℕ, suc, zero, _+_, _≤_, _<_}
 use native.Mathlib.Numerals.{add-one}
@@ -9,8 +9,8 @@ use lib.ListN.{length}
 use lib.Dec.{eqb}
 use borrow.Author.Tests.{eqb-true, ne-eqb}
 use Rattle.lists.specs.Lists.{filter, elem, bit, everyBelow, countBelow}
-use Rattle.lists.proofs.Tests.{cases, and-intro, and-left, and-right}
-use Rattle.lists.proofs.Occurs.{occurs, bit-le, eqb-refl, lt-of-le-ne, elem-occurs, elem-filter, occurs-once, occurs-filtered-out, occurs-filter-le}
+use Rattle.lists.proofs.Tests.{cases, and-intro, and-left, and-right, and-swap, bit-le, eqb-refl, lt-of-le-ne}
+use Rattle.lists.proofs.Occurs.{occurs, elem-occurs, elem-filter, occurs-once, occurs-filtered-out, occurs-filter-le}
 
 pub everyBelow-intro : (n : ℕ) (f : ℕ → Bool) → ((t : ℕ) → t < n → f t ≡ true) → everyBelow n f ≡ true
 unfolding everyBelow
@@ -24,19 +24,13 @@ everyBelow-at (suc n) f h t l = cases (eqb t n)
     (λ e. rw (eqb-true t n e) (and-right (everyBelow n f) (f n) h))
     (λ e. everyBelow-at n f (and-left (everyBelow n f) (f n) h) t (lt-of-le-ne t n (omega arith) e))
 
-pub everyBelow-next : (n : ℕ) (f : ℕ → Bool) → everyBelow (n + 1) f ≡ (everyBelow n f && f n)
+everyBelow-next : (n : ℕ) (f : ℕ → Bool) → everyBelow (n + 1) f ≡ (everyBelow n f && f n)
 everyBelow-next n f = rw (add-one n) (unfold everyBelow in refl)
 
 pub everyBelow-ext : (n : ℕ) (f g : ℕ → Bool) → ((t : ℕ) → t < n → f t ≡ g t) → everyBelow n f ≡ everyBelow n g
 unfolding everyBelow
 everyBelow-ext zero f g h = refl
 everyBelow-ext (suc n) f g h = cc (everyBelow-ext n f g (λ t l. h t (omega arith)), h n (omega arith))
-
-and-swap : (a b x y : Bool) → (a && x && (b && y)) ≡ (a && b && (x && y))
-and-swap true true x y = refl
-and-swap true false true y = refl
-and-swap true false false y = refl
-and-swap false b x y = refl
 
 pub everyBelow-and : (n : ℕ) (f g : ℕ → Bool) → everyBelow n (λ t. f t && g t) ≡ (everyBelow n f && everyBelow n g)
 unfolding everyBelow

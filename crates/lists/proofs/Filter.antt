@@ -30,7 +30,7 @@ module _ {A : Type 0} where
       let ih = filter-within f g h same none xs in
       cases (h x) (λ e. cc (same x e)) (λ e. cc (none x e))
 
-  pub filter-ext : (f g : A → Bool) (l : List A) → ((x : A) → f x ≡ g x) → filter f l ≡ filter g l
+  filter-ext : (f g : A → Bool) (l : List A) → ((x : A) → f x ≡ g x) → filter f l ≡ filter g l
   filter-ext f g [] h = refl
   filter-ext f g (x ∷ xs) h = cc (h x, filter-ext f g xs h)
 

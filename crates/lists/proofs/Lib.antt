@@ -4,6 +4,7 @@ pub mod Update
 pub mod Occurs
 pub mod Count
 pub mod Loops
+pub mod LeftOver
 pub mod Stores
 pub mod LittleEndian
 pub mod Tabulate

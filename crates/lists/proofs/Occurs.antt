@@ -1,47 +1,20 @@
 -- How often a number stands in a list: 0 or 1 for each number says both that no number stands there twice and which stand there.
-use mathlib.Core.Path.{_≡_, refl, sym, ap}
-use mathlib.Core.Bool.{Bool, true, false, not, _||_}
+use mathlib.Core.Path.{_≡_, refl, sym, ap, _∙_}
+use mathlib.Core.Bool.{Bool, true, false, not, _||_, or-false}
 use mathlib.Core.List.{List, [], _∷_, _++_}
 use Prim.Native.Nat.{ℕ, suc, zero, _+_, _≤_, _<_}
 use native.Mathlib.Omega.{arith}
 use native.Mathlib.Nat.{zero-add}
 use native.Mathlib.Numerals.{one-add}
 use lib.ListN.{length, take, drop, getD, replicate}
-use lib.Dec.{eqb, leb}
-use borrow.Author.Tests.{eqb-true, eqb-false, eq-eqb, ne-eqb, leb-true, leb-false, not-true}
+use lib.Dec.{eqb}
+use borrow.Author.Tests.{eqb-true, not-true}
 use Rattle.lists.specs.Lists.{filter, all, elem, without, distinct, bit}
-use Rattle.lists.proofs.Tests.{cases, clash, and-intro, and-left, and-right, or-left, or-right}
+use Rattle.lists.proofs.Tests.{cases, clash, and-intro, and-left, and-right, or-left, or-right, eqb-refl, eqb-sym}
 
 abbrev pub occurs : ℕ → List ℕ → ℕ
 occurs t [] = 0
 occurs t (x ∷ xs) = bit (eqb t x) + occurs t xs
-
-pub bit-le : (b : Bool) → bit b ≤ 1
-bit-le true = omega arith
-bit-le false = omega arith
-
-pub bit-true : (b : Bool) → 1 ≤ bit b → b ≡ true
-bit-true true h = refl
-bit-true false h = absurd (omega arith)
-
-pub bit-injective : (a b : Bool) → bit a ≡ bit b → a ≡ b
-bit-injective true true e = refl
-bit-injective true false e = absurd (omega arith)
-bit-injective false true e = absurd (omega arith)
-bit-injective false false e = refl
-
-pub eqb-refl : (t : ℕ) → eqb t t ≡ true
-eqb-refl t = eq-eqb t t refl
-
-pub eqb-sym : (a b : ℕ) → eqb a b ≡ eqb b a
-eqb-sym a b = cases (eqb a b)
-    (λ e. rw e (sym (eq-eqb b a (sym (eqb-true a b e)))))
-    (λ e. rw e (sym (ne-eqb b a (λ d. eqb-false a b e (sym d)))))
-
-pub lt-of-le-ne : (n t : ℕ) → n ≤ t → eqb n t ≡ false → n < t
-lt-of-le-ne n t h e =
-    let k = eqb-false n t e in
-    cases (leb (suc n) t) (λ d. leb-true (suc n) t d) (λ d. absurd (k (let j = leb-false (suc n) t d in omega arith)))
 
 -- elem and occurs
 pub elem-occurs : (t : ℕ) (l : List ℕ) → elem t l ≡ true → 1 ≤ occurs t l
@@ -177,4 +150,4 @@ filter-same t (x ∷ xs) =
 
 -- a list of one number
 pub elem-one : (u t : ℕ) → elem u (t ∷ []) ≡ true → u ≡ t
-elem-one u t e = eqb-true u t (cases (eqb u t) (λ k. k) (λ k. clash (elem u (t ∷ [])) e (rw k)))
+elem-one u t e = eqb-true u t (sym (or-false (eqb u t)) ∙ e)

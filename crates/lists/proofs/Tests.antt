@@ -1,10 +1,12 @@
--- Laws of Boolean tests: going by cases, and what a conjunction or a disjunction tells.
-use mathlib.Core.Path.{_≡_, refl, sym, _∙_}
+-- Laws of Boolean tests: going by cases, what a conjunction or a disjunction tells, a test as a number, and tests of two numbers.
+use mathlib.Core.Path.{_≡_, refl, sym, ap, _∙_}
 use mathlib.Core.Logic.{_⊎_, ⊎-elim}
-use Prim.Native.Nat.{ℕ, _*_}
+use Prim.Native.Nat.{ℕ, _*_, _≤_, _<_}
 use native.Mathlib.Nat.{one-mul, zero-mul}
 use native.Mathlib.Omega.{arith}
-use mathlib.Core.Bool.{Bool, true, false, _&&_, _||_, Bool·beq, true≢false, not, cond, or-false}
+use mathlib.Core.Bool.{Bool, true, false, _&&_, _||_, Bool·beq, true≢false, not, cond, and-assoc, and-comm, or-false}
+use lib.Dec.{eqb}
+use borrow.Author.Tests.{eqb-true, eqb-false, eq-eqb, ne-eqb}
 use Rattle.lists.specs.Lists.{bit}
 
 pub cases {ℓ} : {P : Type ℓ} (b : Bool) → (b ≡ true → P) → (b ≡ false → P) → P
@@ -24,6 +26,10 @@ and-left false b e = e
 pub and-right : (a b : Bool) → (a && b) ≡ true → b ≡ true
 and-right true b e = e
 and-right false b e = clash true refl (sym e)
+
+-- the middle two of four exchanged
+pub and-swap : (a b x y : Bool) → (a && x && (b && y)) ≡ (a && b && (x && y))
+and-swap a b x y = simp and-assoc (ap (a &&_) (sym (and-assoc x b y) ∙ ap (_&& y) (and-comm x b) ∙ and-assoc b x y))
 
 pub or-left : (a b : Bool) → (a || b) ≡ false → a ≡ false
 or-left true b e = e
@@ -59,7 +65,34 @@ pub by-test : (b d e : Bool) → (not b && e || b && d) ≡ cond b d e
 by-test true d e = refl
 by-test false d e = or-false e
 
+-- a test as a number
+pub bit-le : (b : Bool) → bit b ≤ 1
+bit-le true = omega arith
+bit-le false = omega arith
+
+pub bit-true : (b : Bool) → 1 ≤ bit b → b ≡ true
+bit-true true h = refl
+bit-true false h = absurd (omega arith)
+
+pub bit-injective : (a b : Bool) → bit a ≡ bit b → a ≡ b
+bit-injective true true e = refl
+bit-injective true false e = absurd (omega arith)
+bit-injective false true e = absurd (omega arith)
+bit-injective false false e = refl
+
 -- a number or 0, as a sum of bits has it
 pub bit-choice : (b : Bool) (n : ℕ) → cond b n 0 ≡ bit b * n
 bit-choice true n = sym (one-mul n)
 bit-choice false n = sym (zero-mul n)
+
+-- tests of two numbers
+pub eqb-refl : (t : ℕ) → eqb t t ≡ true
+eqb-refl t = eq-eqb t t refl
+
+pub eqb-sym : (a b : ℕ) → eqb a b ≡ eqb b a
+eqb-sym a b = cases (eqb a b)
+    (λ e. rw e (sym (eq-eqb b a (sym (eqb-true a b e)))))
+    (λ e. rw e (sym (ne-eqb b a (λ d. eqb-false a b e (sym d)))))
+
+pub lt-of-le-ne : (n t : ℕ) → n ≤ t → eqb n t ≡ false → n < t
+lt-of-le-ne n t h e = let k = eqb-false n t e in omega arith

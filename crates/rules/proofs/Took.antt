@@ -7,9 +7,9 @@ use native.Mathlib.Omega.{arith}
 use lib.ListN.{length}
 use lib.Dec.{eqb}
 use Rattle.lists.specs.Lists.{elem, without, countBelow}
-use Rattle.lists.proofs.Tests.{cases, clash}
+use Rattle.lists.proofs.Tests.{cases, clash, bit-true, eqb-refl}
 use Rattle.lists.proofs.Filter.{filter-true}
-use Rattle.lists.proofs.Occurs.{occurs, bit-true, eqb-refl, elem-occurs}
+use Rattle.lists.proofs.Occurs.{occurs, elem-occurs}
 use Rattle.lists.proofs.Count.{length-count, countBelow-ext}
 use Rattle.tables.specs.declared.State.{State}
 use Rattle.tables.specs.declared.LastAnswer.{LastAnswer}

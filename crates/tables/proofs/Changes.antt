@@ -9,8 +9,8 @@ use lib.Seq.{take-append-seam, getD-set-same, getD-set-other, ext-getD}
 use lib.Dec.{eqb}
 use borrow.Author.Tests.{eqb-true, eqb-false}
 use Rattle.lists.specs.Lists.{update, elem, without}
-use Rattle.lists.proofs.Tests.{cases}
-use Rattle.lists.proofs.Occurs.{eqb-refl, elem-append, without-append}
+use Rattle.lists.proofs.Tests.{cases, eqb-refl}
+use Rattle.lists.proofs.Occurs.{elem-append, without-append}
 use Rattle.lists.proofs.Loops.{take-next}
 use Rattle.lists.proofs.Update.{length-update, getD-update, getD-update-fixed, update-comm, update-id}
 use Rattle.tables.specs.declared.State.{State}

@@ -7,9 +7,8 @@ use native.Mathlib.Omega.{arith}
 use lib.ListN.{length, set, replicate, length-set}
 use lib.Dec.{eqb, ltb}
 use borrow.Author.Tests.{eq-eqb, ne-eqb, ltb-true, ltb-false}
-use Rattle.lists.proofs.Tests.{cases}
+use Rattle.lists.proofs.Tests.{cases, lt-of-le-ne}
 use Rattle.lists.proofs.Filter.{getD-replicated}
-use Rattle.lists.proofs.Occurs.{lt-of-le-ne}
 pub use Rattle.arrivals.proofs.Flags.{flag-here, flag-there, flags-set, flags-next}
 use Rattle.tables.specs.Sizes.{threadsPerProcess, threads}
 use Rattle.tables.specs.declared.State.{State}

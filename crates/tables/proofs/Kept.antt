@@ -8,8 +8,8 @@ use lib.ListN.{length, List·getD-eq-default}
 use lib.Dec.{eqb, leb, ltb}
 use borrow.Author.Tests.{leb-false, ltb-true, ltb-false, lt-ltb}
 use Rattle.lists.specs.Lists.{filter, elem, without, bit}
-use Rattle.lists.proofs.Tests.{cases, and-intro, and-left, and-right, or-left}
-use Rattle.lists.proofs.Occurs.{occurs, bit-le, eqb-refl, elem-one, elem-occurs, absent-occurs, occurs-append, occurs-filter, occurs-without, occurs-taken-out}
+use Rattle.lists.proofs.Tests.{cases, and-intro, and-left, and-right, or-left, bit-le, eqb-refl}
+use Rattle.lists.proofs.Occurs.{occurs, elem-one, elem-occurs, absent-occurs, occurs-append, occurs-filter, occurs-without, occurs-taken-out}
 use Rattle.tables.specs.declared.State.{State}
 use Rattle.tables.specs.declared.Thread.{Thread}
 use Rattle.tables.specs.declared.LastAnswer.{LastAnswer}

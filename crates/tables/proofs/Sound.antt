@@ -9,9 +9,9 @@ use lib.Seq.{drop-append-seam}
 use lib.Dec.{eqb, ltb}
 use borrow.Author.Tests.{eqb-true, eq-eqb, leb-true, le-leb, ltb-true, ltb-false, lt-ltb, lt-leb}
 use Rattle.lists.specs.Lists.{all, padTo, elem, distinct, bit}
-use Rattle.lists.proofs.Tests.{cases, clash, and-intro, and-left, and-right, beq-true, eq-beq}
+use Rattle.lists.proofs.Tests.{cases, clash, and-intro, and-left, and-right, beq-true, eq-beq, bit-le, bit-true, bit-injective}
 use Rattle.lists.proofs.Filter.{all-getD, getD-all, all-replicate, replicate-all, getD-replicated}
-use Rattle.lists.proofs.Occurs.{occurs, bit-le, bit-true, bit-injective, elem-occurs, absent-occurs, occurs-once, occurs-distinct, distinct-occurs, all-elem, elem-all}
+use Rattle.lists.proofs.Occurs.{occurs, elem-occurs, absent-occurs, occurs-once, occurs-distinct, distinct-occurs, all-elem, elem-all}
 use Rattle.lists.proofs.Count.{everyBelow-intro, everyBelow-at, length-le}
 use Rattle.tables.specs.declared.State.{State}
 use Rattle.tables.specs.declared.Thread.{Thread}

@@ -11,7 +11,8 @@ use borrow.Author.Tests.{ltb-true}
 use Rattle.lists.specs.Lists.{filter, all, without, padTo, leftOver}
 use Rattle.lists.proofs.Filter.{all-filtered, all-take, filter-true}
 use Rattle.lists.proofs.Occurs.{elem-all, elem-getD, filter-agree}
-use Rattle.lists.proofs.Loops.{length-snoc, padTo-snoc, without-taken, length-parts}
+use Rattle.lists.proofs.Loops.{length-snoc, padTo-snoc}
+use Rattle.lists.proofs.LeftOver.{without-taken, length-parts}
 use Rattle.tables.specs.declared.State.{State}
 use Rattle.tables.specs.declared.Thread.{Thread}
 use Rattle.tables.specs.declared.LastAnswer.{LastAnswer}

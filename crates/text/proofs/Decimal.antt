@@ -20,10 +20,10 @@ not-more n j k a b h =
     let v = pow-up k (j - 1) (omega arith) in
     omega (arith, b .1)
 
-pub fewest-one : (n j k : ℕ) → Fewest 10 1 n j → Fewest 10 1 n k → j ≡ k
+fewest-one : (n j k : ℕ) → Fewest 10 1 n j → Fewest 10 1 n k → j ≡ k
 fewest-one n j k a b = let u = not-more n j k a b in let v = not-more n k j b a in omega arith
 
-pub places-fewest : (f n : ℕ) → n < 10 ^ (f + 1) → Fewest 10 1 n (placesFor f n)
+places-fewest : (f n : ℕ) → n < 10 ^ (f + 1) → Fewest 10 1 n (placesFor f n)
 places-fewest zero n h = (omega arith, h, λ p. absurd (omega arith))
 places-fewest (suc f) n h =
     cases (ltb n 10)
@@ -44,7 +44,7 @@ places-fewest (suc f) n h =
     (λ q. let r = ltb-false 1 p q in let t : p ≡ 1 = omega (arith, ih .0) in rw t (omega arith)) in
     rw e ((omega arith, rw pow-succ' (omega (arith, ih .1)), λ x. rw a b)))
 
-pub length-digits : (k n : ℕ) → length (digits 10 k n) ≡ k
+length-digits : (k n : ℕ) → length (digits 10 k n) ≡ k
 length-digits zero n = refl
 length-digits (suc k) n = rw (length-append, length-digits k (n / 10)) (omega arith)
 

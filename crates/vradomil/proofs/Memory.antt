@@ -14,9 +14,8 @@ use Rattle.lists.proofs.LittleEndian.{le-bytes, le-below, bytes-drop}
 use Rattle.lists.proofs.Tabulate.{length-tabulate, getD-tabulate}
 use Rattle.tables.specs.Sizes.{wordBytes}
 use Rattle.layout.specs.Layout.{column, wordsOf, wordsBytes}
-use Rattle.layout.proofs.Columns.{length-column, column-set}
+use Rattle.layout.proofs.Columns.{length-column, column-set, entry-read}
 use Rattle.layout.proofs.Exact.{words-read, words-exact}
-use Rattle.changes.proofs.Faithful.{entry-read}
 
 module _ (n : ℕ) (m : List ℕ) where
   pub word-read : (i : ℕ) → length m ≡ wordBytes * n → i < n → getD (wordsOf n m) i 0 ≡ numberAt wordBytes (wordBytes * i) m

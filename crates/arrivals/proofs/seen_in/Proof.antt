@@ -1,21 +1,20 @@
 use mathlib.Core.Path.{_≡_, refl, sym, ap, _∙_, subst}
-use mathlib.Core.Bool.{Bool, true, false, not, _&&_, _||_, or-true, or-false, and-false}
+use mathlib.Core.Bool.{Bool, true, false, not, _&&_, _||_, and-assoc, and-false, or-true, or-false}
 use mathlib.Core.List.{List, [], _∷_, _++_}
 use Prim.Native.Nat.{ℕ, _-_, _%_, _≤_}
 use native.Mathlib.Omega.{arith}
 use borrow.Author.Needs.{needs}
-use borrow.Author.Tests.{eqb-true, eqb-false, ne-eqb, ltb-true, ltb-false}
+use borrow.Author.Tests.{ne-eqb, ltb-true, ltb-false}
 use lib.ListN.{length, take, getD, set, length-set}
 use lib.Seq.{set-getD}
-use lib.Dec.{eqb, ltb}
+use lib.Dec.{ltb}
 use Rattle.lists.specs.Lists.{all, elem, distinct}
-use Rattle.lists.proofs.Tests.{cases}
+use Rattle.lists.proofs.Tests.{cases, and-swap}
 use Rattle.lists.proofs.Filter.{getD-replicated}
-use Rattle.lists.proofs.Occurs.{elem-append}
-use Rattle.lists.proofs.Loops.{take-next, all-snoc, distinct-snoc}
+use Rattle.lists.proofs.Loops.{take-next, all-snoc, elem-last, elem-before, distinct-snoc}
 use Rattle.arrivals.specs.Sizes.{threads}
 use Rattle.arrivals.specs.Arrivals.{flagged, Flags, SeenIn}
-use Rattle.arrivals.proofs.Flags.{flag-here, flag-there}
+use Rattle.arrivals.proofs.Flags.{flags-set}
 use Rattle.arrivals.proofs.seen_in.Statement.{statement}
 use Rattle.arrivals.proofs.seen_in.Tie as tie
 
@@ -58,13 +57,6 @@ add-i c = omega arith
 loop-less : tie.Need-loop-less Inv-loop μ-loop
 loop-less c = omega arith
 
-regroup : (n d low m : Bool) → (n && d && low && not m) ≡ (n && low && (d && not m))
-regroup true true true m = refl
-regroup true true false m = refl
-regroup true false true m = refl
-regroup true false false m = refl
-regroup false d low m = refl
-
 -- one turn: an entry x, at the index j
 module _ (l : List ℕ) (ok : Bool) (marks : List Bool) (x j : ℕ) (g : SeenIn l ok marks) (size : length marks ≡ threads) (is : j ≡ x % threads) where
   at-low : ltb x threads ≡ true → j ≡ x
@@ -77,23 +69,17 @@ module _ (l : List ℕ) (ok : Bool) (marks : List Bool) (x j : ℕ) (g : SeenIn 
   sound-next = cases (ltb x threads)
       (λ e.
       let mark : flagged marks j ≡ elem x l = ap (flagged marks) (at-low e) ∙ g .marked x (ltb-true x threads e) in
-      cc (g .sound, entries, distinct-snoc l x, regroup (all (λ t. ltb t threads) l) (distinct l) (ltb x threads) (elem x l)))
+      let low = all (λ t. ltb t threads) l in
+      cc (g .sound, entries, distinct-snoc l x, and-assoc (low && distinct l) (ltb x threads) (not (elem x l)), and-swap low (ltb x threads) (distinct l) (not (elem x l))))
       (λ e. rw (entries, e, and-false ok, and-false (all (λ t. ltb t threads) l)))
 
   -- a thread number is marked, and nothing else is
-  marked-low : ltb x threads ≡ true → Flags (set marks j (flagged marks j || ltb x threads)) (λ t. elem t l || eqb t x)
-  marked-low e t h = rw (at-low e, e, or-true (flagged marks x)) (cases (eqb t x)
-      (λ d. rw (d, eqb-true t x d, or-true (elem x l)) (flag-here marks x true (let k = ltb-true x threads e in omega arith)))
-      (λ d. flag-there marks x t true (eqb-false t x d) ∙ rw (d, or-false (elem t l)) (g .marked t h)))
-
-  marked-out : ltb x threads ≡ false → Flags (set marks j (flagged marks j || ltb x threads)) (λ t. elem t l || eqb t x)
-  marked-out e t h =
-      rw (e, or-false (flagged marks j), set-getD marks j false, ne-eqb t x (λ q. let k = ltb-false x threads e in omega arith), or-false (elem t l)) (g .marked t h)
-
   marked-next : Flags (set marks j (flagged marks j || ltb x threads)) (λ t. elem t (l ++ (x ∷ [])))
-  marked-next t h =
-      let both : elem t (l ++ (x ∷ [])) ≡ (elem t l || eqb t x) = elem-append t l (x ∷ []) ∙ ap (elem t l ||_) (or-false (eqb t x)) in
-      rw both (cases (ltb x threads) (λ e. marked-low e t h) (λ e. marked-out e t h))
+  marked-next t h = cases (ltb x threads)
+      (λ e. rw (at-low e, e, or-true (flagged marks x))
+      (flags-set marks (λ u. elem u (l ++ (x ∷ []))) x true (let k = ltb-true x threads e in omega arith) (sym (elem-last l x)) t (λ d. g .marked t h ∙ sym (elem-before t l x d))))
+      (λ e. rw (e, or-false (flagged marks j), set-getD marks j false)
+      (g .marked t h ∙ sym (elem-before t l x (ne-eqb t x (λ q. let k = ltb-false x threads e in omega arith)))))
 
   turn : SeenIn (l ++ (x ∷ [])) (ok && ltb x threads && not (flagged marks j)) (set marks j (flagged marks j || ltb x threads))
   turn = record { sound = sound-next; marked = marked-next }

@@ -11,7 +11,8 @@ use lib.Seq.{length-take-le, getD-take, take-nil}
 use lib.Dec.{ltb}
 use Rattle.lists.specs.Lists.{filter, padTo, leftOver}
 use Rattle.lists.proofs.Tests.{cases, by-cases, and-left, and-right}
-use Rattle.lists.proofs.Loops.{drop-next, length-snoc, padTo-snoc, taken-one, taken-none, leftOver-taken, leftOver-kept}
+use Rattle.lists.proofs.Loops.{drop-next, length-snoc, padTo-snoc}
+use Rattle.lists.proofs.LeftOver.{taken-one, taken-none, leftOver-taken, leftOver-kept}
 use Rattle.arrivals.specs.Sizes.{threads, noEntry}
 use Rattle.arrivals.specs.Arrivals.{flagged, splitOf}
 use Rattle.arrivals.proofs.split.Statement.{statement}

@@ -1,26 +1,14 @@
 use denote.Ref.{now}
-use mathlib.Core.Path.{_≡_, refl, ap, _∙_}
+use mathlib.Core.Path.{_≡_, _∙_}
 use native.Mathlib.Omega.{arith}
-use lib.ListN.{length, take}
-use Rattle.tables.specs.declared.State.{State}
-use Rattle.tables.specs.declared.Taken.{Taken}
-use Rattle.tables.specs.declared.Change.the-variants.{MoveTo}
-use Rattle.tables.specs.Tables.{arrivals, change, withThreads}
-use Rattle.tables.specs.Steps.{Numbers, changedBy, flagged, splitOf}
-use Rattle.tables.proofs.Sound.{Sound, tables-sound}
-use Rattle.tables.proofs.Stored.{taken-numbers, joins, moves-first}
-use Rattle.layout.specs.Layout.{tablesSize, tablesBytes}
-use Rattle.changes.specs.Change.{Stands}
-use Rattle.changes.proofs.Standing.{size-held, whole}
-use Rattle.changes.proofs.Changing.{whole-change}
-use Rattle.changes.proofs.Taking.{count-is, list-read, split-read}
+use lib.ListN.{length}
+use Rattle.tables.specs.Steps.{Numbers, flagged}
+use Rattle.layout.specs.Layout.{tablesSize}
+use Rattle.changes.proofs.Standing.{size-held}
+use Rattle.changes.proofs.Taking.{Split, list-read, split-numbers, split-joins, split-moves}
 use borrow.Author.Needs.{needs}
 use Rattle.changes.proofs.move_first.Statement.{statement}
 use Rattle.changes.proofs.move_first.Tie as tie
-
--- the tables that are asked for
-sound : (c : tie.Start) → Sound (c .pre .state)
-sound c = tables-sound (c .pre .state) (c .pre .stands .sound)
 
 size : (c : tie.Start) → length (now (c .args .b)) ≡ tablesSize
 size c = size-held (c .pre .state) (now (c .args .b)) (c .pre .stands)
@@ -36,20 +24,16 @@ split-requires c κs =
     let g = c .before .before .before .before .before in
     list-read (g .pre .state) (now (g .args .b)) (g .pre .stands) (c .before .before .list-at .result) (c .u64-at .result) (c .before .before .list-at .ensures) (c .u64-at .ensures .0)
 
--- what the split finds, of the tables that the bytes stand for
-parts-are : (c : tie.After-split) (s : State) → Stands s (now (c .before .before .before .before .before .before .args .b))
+-- the list that is read, and its parts
+parts-of : (c : tie.After-split)
     → let g = c .before .before .before .before .before .before in
-    c .split .result ≡ splitOf (flagged (g .args .flags)) (g .args .cap) (arrivals s)
-parts-are c s h =
-    let g = c .before .before .before .before .before .before in
-    let u = c .before in
-    split-read s (now (g .args .b)) h (u .before .before .list-at .result) (u .u64-at .result) (u .before .before .list-at .ensures) (u .u64-at .ensures .0)
-    (flagged (g .args .flags)) (g .args .cap) (c .split .result) (c .split .ensures)
+    Split (now (g .args .b)) (flagged (g .args .flags)) (g .args .cap) (c .before .before .before .list-at .result) (c .before .u64-at .result) (c .split .result)
+parts-of c = record { read = c .before .before .before .list-at .ensures; counted = c .before .u64-at .ensures .0; is = c .split .ensures }
 
 numbers : (c : tie.After-split) → Numbers (c .split .result .taken) (c .split .result .n)
 numbers c =
     let g = c .before .before .before .before .before .before in
-    taken-numbers (g .pre .state) (sound g) (flagged (g .args .flags)) (g .args .cap) (c .split .result) (parts-are c (g .pre .state) (g .pre .stands))
+    split-numbers (g .pre .state) (now (g .args .b)) (g .pre .stands) (parts-of c)
 
 move-all-requires : tie.Need-move-all-requires
 move-all-requires c κs = (size (c .before .before .before .before .before .before .before .before), numbers (c .before .before))
@@ -58,7 +42,7 @@ joined-requires : tie.Need-joined-requires
 joined-requires c κs =
     let k = c .before .before .before .before .before .before in
     let g = k .before .before .before .before .before .before in
-    joins (g .pre .state) (sound g) (flagged (g .args .flags)) (g .args .cap) (k .split .result) (parts-are k (g .pre .state) (g .pre .stands))
+    split-joins (g .pre .state) (now (g .args .b)) (g .pre .stands) (parts-of k)
 
 put-list-requires : tie.Need-put-list-requires
 put-list-requires c κs = c .before .before .before .before .before .move-all .kept .0 ∙ size (c .before .before .before .before .before .before .before .before .before .before .before .before .before .before)
@@ -77,19 +61,7 @@ returns c =
     let m = j .before .before .before .before in
     let k = m .before .before .before in
     let g = k .before .before .before .before .before .before in
-    let parts = k .split .result in
-    let how = MoveTo (g .args .uaddr) in
-    let w = whole s (h .sound) in
-    let u = withThreads (change (changedBy how) (take (parts .n) (parts .taken)) (s .threads)) s in
-    let v = whole-change (changedBy how) (take (parts .n) (parts .taken)) s w in
-    let left = p .put-list .ensures u v (m .move-all .ensures s w (h .bytes)) in
-    let count = count-is s (now (g .args .b)) h (k .before .before .before .list-at .result) (k .before .u64-at .result) (k .before .before .before .list-at .ensures) (k .before .u64-at .ensures .0) in
-    let all = moves-first s (tables-sound s (h .sound)) (flagged (g .args .flags)) (g .args .cap) (g .args .uaddr) parts (parts-are k s h) u refl (j .joined .result) (j .joined .ensures) in
-    record {
-      number = ap (λ (t : Taken). t .n) all;
-      bytes = left ∙ ap (λ n. tablesBytes (record { clock = u .clock; threads = u .threads; list = j .joined .result; count = n })) count
-          ∙ ap (λ (t : Taken). tablesBytes (t .state)) all;
-    }
+    split-moves s (now (g .args .b)) h (parts-of k) (g .args .uaddr) (j .joined .result) _ _ (j .joined .ensures) (m .move-all .ensures) (p .put-list .ensures)
 
 pub move-first-spec : {M : Type 1} → statement M
 move-first-spec =

@@ -1,27 +1,20 @@
 use denote.Ref.{now}
-use mathlib.Core.Path.{_≡_, refl, sym, ap, _∙_}
-use mathlib.Core.List.{List, []}
-use Prim.Native.Nat.{ℕ, suc, _+_, _-_, _≤_}
+use mathlib.Core.Path.{_≡_, refl, ap, _∙_}
+use Prim.Native.Nat.{_-_}
 use native.Mathlib.Omega.{arith}
 use borrow.Author.Needs.{needs}
-use lib.ListN.{length, drop, getD, set, length-set, drop-of-length-le}
+use lib.ListN.{length}
 use lib.Seq.{sets}
 use Rattle.lists.specs.LittleEndian.{bytes}
-use Rattle.lists.proofs.Loops.{drop-next}
+use Rattle.lists.proofs.Stores.{Storing, storing-start, storing-next, storing-all}
 use Rattle.tables.specs.Sizes.{threads}
 use Rattle.layout.specs.Layout.{timeBytes, listAt, countAt}
 use Rattle.changes.proofs.Writing.{list-put}
 use Rattle.changes.proofs.put_list.Statement.{statement}
 use Rattle.changes.proofs.put_list.Tie as tie
 
--- the entries that are stored, and those that are left to store
-record Going (b₀ list b : List ℕ) (i : ℕ) : Type 0 where
-  within : i ≤ threads
-  long : length b ≡ length b₀
-  done : sets b₀ listAt list ≡ sets b (listAt + i) (drop i list)
-
 abbrev Inv-loop : tie.InvT-loop
-Inv-loop b₀ count list i₀ b i = Going b₀ list b i
+Inv-loop b₀ count list i₀ b i = Storing b₀ list listAt b i
 
 abbrev μ-loop : tie.MeasureT-loop
 μ-loop b₀ count list i₀ b i = threads - i
@@ -30,7 +23,7 @@ size : (c : tie.Start Inv-loop μ-loop) → length (c .args .t2) ≡ threads
 size c = search needs
 
 loop-holds : tie.Need-loop-holds Inv-loop μ-loop
-loop-holds c = record { within = omega arith; long = refl; done = refl }
+loop-holds c = storing-start _ _ _
 
 array-read-b : tie.Need-array-read-b Inv-loop μ-loop
 array-read-b c = omega arith
@@ -51,16 +44,7 @@ loop-again : tie.Need-loop-again Inv-loop μ-loop
 loop-again c =
     let k = c .before in
     let g = k .before .before in
-    let i = k .loop .i in
-    let b = k .loop .b in
-    let list = g .args .t2 in
-    let v = getD list i 0 in
-    let here : suc (listAt + i) ≡ listAt + (i + 1) = omega arith in
-    record {
-      within = omega arith;
-      long = length-set b (listAt + i) v ∙ k .loop .inv .long;
-      done = k .loop .inv .done ∙ ap (sets b (listAt + i)) (drop-next list i 0 (omega (arith, size g))) ∙ ap (λ n. sets (set b (listAt + i) v) n (drop (i + 1) list)) here;
-    }
+    storing-next (now (g .args .b)) (g .args .t2) listAt (k .loop .b) (k .loop .i) _ 0 (k .loop .inv) (omega (arith, size g)) refl
 
 put-u64-requires : tie.Need-put-u64-requires Inv-loop μ-loop
 put-u64-requires c κs = omega (arith, c .before .before .loop .inv .long)
@@ -74,8 +58,7 @@ returns c =
     let l = c .before .before .before .before .before in
     let g = l .before .before in
     let list = g .args .t2 in
-    let end : drop (l .loop .i) list ≡ [] = drop-of-length-le list {i = l .loop .i} (omega (arith, size g)) in
-    let stored = sym (l .loop .inv .done ∙ ap (sets (l .loop .b) (listAt + l .loop .i)) end) in
+    let stored = storing-all _ list listAt (l .loop .b) (l .loop .i) (l .loop .inv) (omega (arith, size g)) in
     c .before .before .put-u64 .ensures ∙ ap (λ x. sets x countAt (bytes timeBytes (g .args .count))) stored ∙ list-put s w list (g .args .count) (size g) (now (g .args .b)) is
 
 pub put-list-spec : {M : Type 1} → statement M

@@ -1,17 +1,17 @@
 use denote.Ref.{now}
-use mathlib.Core.Path.{_≡_, refl, sym, ap, _∙_}
+use mathlib.Core.Path.{_≡_, sym, ap, _∙_}
 use mathlib.Core.Bool.{Bool}
 use Prim.Native.Nat.{_+_, _*_, _%_}
 use native.Mathlib.Omega.{arith}
 use lib.ListN.{length, set, length-set}
 use lib.Seq.{sets}
 use Rattle.lists.specs.Lists.{bit}
-use Rattle.lists.proofs.Occurs.{bit-le}
+use Rattle.lists.proofs.Tests.{bit-le}
 use Rattle.lists.specs.LittleEndian.{bytes}
 use Rattle.tables.specs.declared.LastAnswer.{LastAnswer}
-use Rattle.tables.specs.declared.LastAnswer.the-variants.{NoneYet, Woken, TimedOut, Interrupted}
 use Rattle.tables.specs.Sizes.{wordBytes}
 use Rattle.layout.specs.Layout.{timeBytes, lastByte, waitingAt, timedAt, lastAt, uaddrAt, bitsetAt, deadlineAt, tablesSize}
+use Rattle.layout.proofs.Exact.{last-low}
 use Rattle.changes.proofs.Writing.{thread-put}
 use borrow.Author.Needs.{needs}
 use Rattle.changes.proofs.put_thread.Statement.{statement}
@@ -21,10 +21,7 @@ flag-fits : (x : Bool) → bit x ≡ bit x % 256
 flag-fits x = omega (arith, bit-le x)
 
 last-fits : (a : LastAnswer) → lastByte a ≡ lastByte a % 256
-last-fits NoneYet = refl
-last-fits Woken = refl
-last-fits TimedOut = refl
-last-fits Interrupted = refl
+last-fits a = omega (arith, last-low a)
 
 flag-byte-requires : tie.Need-flag-byte-requires
 flag-byte-requires c κs = search needs

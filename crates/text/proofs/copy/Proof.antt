@@ -1,19 +1,17 @@
 use denote.Ref.{now}
-use mathlib.Core.Path.{_≡_, refl, ap, sym, _∙_}
-use mathlib.Core.List.{List, [], _∷_, _++_}
-use Prim.Native.Nat.{ℕ, _-_, _+_, _≤_, _<_}
+use mathlib.Core.Path.{_≡_, sym}
+use Prim.Native.Nat.{_-_}
 use native.Mathlib.Omega.{arith}
-use native.Mathlib.Numerals.{add-one}
-use lib.ListN.{length, take, getD, set, length-set}
-use lib.Seq.{sets, take-suc, length-take-le}
+use lib.ListN.{length, take}
+use lib.Seq.{length-take-le, getD-take}
 use borrow.Author.Needs.{needs}
-use Rattle.lists.proofs.Stores.{sets-append}
+use Rattle.lists.proofs.Stores.{Storing, storing-start, storing-next, storing-all}
 use Rattle.text.specs.Text.{mostDigits}
 use Rattle.text.proofs.copy.Statement.{statement}
 use Rattle.text.proofs.copy.Tie as tie
 
 abbrev Inv-loop : tie.InvT-loop
-Inv-loop n out₀ k src i₀ out i = (i ≤ n) × (length out ≡ length out₀) × (out ≡ sets out₀ k (take i src))
+Inv-loop n out₀ k src i₀ out i = Storing out₀ (take n src) k out i
 
 abbrev μ-loop : tie.MeasureT-loop
 μ-loop n out₀ k src i₀ out i = n - i
@@ -21,8 +19,11 @@ abbrev μ-loop : tie.MeasureT-loop
 long : (c : tie.Start Inv-loop μ-loop) → length (c .args .t1) ≡ mostDigits
 long c = search needs
 
+size : (c : tie.Start Inv-loop μ-loop) → length (take (c .args .n) (c .args .t1)) ≡ c .args .n
+size c = length-take-le (c .args .n) (c .args .t1) (omega (arith, long c))
+
 loop-holds : tie.Need-loop-holds Inv-loop μ-loop
-loop-holds c = (omega arith, refl, refl)
+loop-holds c = storing-start _ _ _
 
 array-read-out : tie.Need-array-read-out Inv-loop μ-loop
 array-read-out c = omega arith
@@ -31,7 +32,7 @@ add-out : tie.Need-add-out Inv-loop μ-loop
 add-out c = omega arith
 
 slice-write-out : tie.Need-slice-write-out Inv-loop μ-loop
-slice-write-out c = omega (arith, c .before .loop .inv .1)
+slice-write-out c = omega (arith, c .before .loop .inv .long)
 
 add-i : tie.Need-add-i Inv-loop μ-loop
 add-i c = omega arith
@@ -43,27 +44,14 @@ loop-again : tie.Need-loop-again Inv-loop μ-loop
 loop-again c =
     let b = c .before in
     let g = b .before .args in
-    let l = g .t1 in
-    let i = b .loop .i in
-    let o = b .loop .out in
-    let x = getD l i 0 in
-    let sl = long (b .before) in
-    let r : i < length l = omega arith in
-    let n : length (take i l) ≡ i = length-take-le i l (omega arith) in
-    let t : take (i + 1) l ≡ take i l ++ (x ∷ []) = rw (add-one, take-suc l i 0 r) in (
-      omega arith,
-      length-set o (g .k + i) x ∙ b .loop .inv .1,
-      ap (λ (y : List ℕ). set y (g .k + i) x) (b .loop .inv .2)
-          ∙ ap (λ (j : ℕ). set (sets (now (g .out)) (g .k) (take i l)) (g .k + j) x) (sym n)
-          ∙ sets-append (now (g .out)) (g .k) (take i l) (x ∷ [])
-          ∙ ap (sets (now (g .out)) (g .k)) (sym t),
-    )
+    storing-next (now (g .out)) (take (g .n) (g .t1)) (g .k) (b .loop .out) (b .loop .i) _ 0 (b .loop .inv) (omega (arith, size (b .before)))
+    (sym (getD-take (g .n) (g .t1) (b .loop .i) 0 (c .loop-test .taken)))
 
 same-length : tie.Need-same-length Inv-loop μ-loop
-same-length c = c .before .loop .inv .1
+same-length c = c .before .loop .inv .long
 
 returns : tie.Need-returns Inv-loop μ-loop
-returns c = let z : c .before .loop .i ≡ c .before .before .args .n = omega arith in c .before .loop .inv .2 ∙ rw z
+returns c = storing-all _ _ _ (c .before .loop .out) (c .before .loop .i) (c .before .loop .inv) (omega (arith, size (c .before .before)))
 
 pub copy-spec : {M : Type 1} → statement M
 copy-spec =

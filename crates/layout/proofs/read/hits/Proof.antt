@@ -1,22 +1,14 @@
 use borrow.Author.Needs.{needs}
 use denote.Ref.{now}
-use mathlib.Core.Path.{sym, ap, _∙_}
-use mathlib.Core.Bool.{Bool, _&&_, _||_}
-use Prim.Native.Nat.{ℕ, _+_, _*_, _-_}
+use mathlib.Core.Path.{sym, _∙_}
+use Prim.Native.Nat.{_+_, _*_, _-_}
 use native.Mathlib.Omega.{arith}
-use lib.Dec.{eqb}
-use Rattle.tables.specs.declared.State.{State}
-use Rattle.tables.specs.declared.Thread.{Thread}
 use Rattle.tables.specs.Sizes.{threadsPerProcess}
-use Rattle.tables.specs.Tables.{threadOf, sharesBit, sleepsAt}
-use Rattle.tables.proofs.Flags.{Process, process-start, process-next, process-all, process-own}
+use Rattle.tables.proofs.Flags.{Process, process-start, hit, hits-next, hits-all}
 use Rattle.layout.specs.Layout.{stateAt}
 use Rattle.layout.proofs.Reading.{thread-read}
 use Rattle.layout.proofs.read.hits.Statement.{statement}
 use Rattle.layout.proofs.read.hits.Tie as tie
-
-abbrev hit : ℕ → ℕ → Bool → ℕ → State → ℕ → Bool
-hit process uaddr any bitset s t = (any || sharesBit bitset (threadOf s t)) && sleepsAt process uaddr s t
 
 abbrev Inv-loop : tie.InvT-loop
 Inv-loop b process uaddr any bitset flags₀ base i₀ flags i = Process (hit process uaddr any bitset (stateAt b)) base flags i
@@ -57,18 +49,14 @@ loop-again c =
     let g = k .before .before in
     let p = g .args .process in
     let i = k .loop .i in
-    let s = stateAt (now (g .args .b)) in
     let read = c .before .thread-at .ensures ∙ sym (thread-read (now (g .args .b)) (threadsPerProcess * p + i) (omega arith)) in
-    process-next (hit p (g .args .uaddr) (g .args .any) (g .args .bitset) s) (threadsPerProcess * p) (k .loop .flags) i (c .is-hit .result)
-    (k .loop .inv) (omega arith) (omega arith)
-    (c .is-hit .ensures ∙ ap (λ (r : Thread). (g .args .any || sharesBit (g .args .bitset) r) && (r .waiting && eqb (r .uaddr) (g .args .uaddr))) read ∙ rw (process-own p i (omega arith)))
+    hits-next p (g .args .uaddr) (g .args .any) (g .args .bitset) (stateAt (now (g .args .b))) (k .loop .flags) i (k .loop .inv)
+    (c .is-hit .result) (c .before .thread-at .result) (omega arith) (omega arith) read (c .is-hit .ensures)
 
 returns : tie.Need-returns Inv-loop μ-loop
 returns c =
     let g = c .before .before .before in
-    let s = stateAt (now (g .args .b)) in
-    process-all (g .args .process) (λ t. g .args .any || sharesBit (g .args .bitset) (threadOf s t)) (λ t. threadOf s t .waiting && eqb (threadOf s t .uaddr) (g .args .uaddr))
-    (c .before .loop .flags) (c .before .loop .i) (c .before .loop .inv) (omega arith)
+    hits-all (g .args .process) (g .args .uaddr) (g .args .any) (g .args .bitset) (stateAt (now (g .args .b))) (c .before .loop .flags) (c .before .loop .i) (c .before .loop .inv) (omega arith)
 
 pub hits-spec : {M : Type 1} → statement M
 hits-spec =

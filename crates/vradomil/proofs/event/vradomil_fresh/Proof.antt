@@ -1,13 +1,12 @@
 use denote.Ref.{now}
-use mathlib.Core.Path.{_≡_, refl, sym, _∙_}
-use mathlib.Core.List.{List}
-use Prim.Native.Nat.{ℕ, _-_, _≤_}
+use mathlib.Core.Path.{sym, _∙_}
+use Prim.Native.Nat.{_-_}
 use native.Mathlib.Omega.{arith}
 use borrow.Author.Needs.{needs}
 use borrow.Author.Tests.{eq-eqb, ne-eqb}
-use lib.ListN.{length, take, length-set}
+use lib.ListN.{length}
 use lib.Seq.{take-all}
-use Rattle.lists.proofs.Loops.{copy-next}
+use Rattle.lists.proofs.Loops.{Copied, copied-start, copied-next, copied-all}
 use Rattle.tables.specs.Tables.{fresh}
 use Rattle.layout.specs.Layout.{tablesBytes, tablesSize}
 use Rattle.vradomil.proofs.Steps.{read-back}
@@ -15,14 +14,8 @@ use Rattle.vradomil.proofs.Laying.{fresh-size, fresh-byte}
 use Rattle.vradomil.proofs.event.vradomil_fresh.Statement.{statement}
 use Rattle.vradomil.proofs.event.vradomil_fresh.Tie as tie
 
--- the first i bytes are laid down
-record Going (b₀ b : List ℕ) (i : ℕ) : Type 0 where
-  within : i ≤ tablesSize
-  long : length b ≡ length b₀
-  done : take i b ≡ take i (tablesBytes fresh)
-
 abbrev Inv-loop : tie.InvT-loop
-Inv-loop tables₀ i₀ tables i = Going tables₀ tables i
+Inv-loop tables₀ i₀ tables i = Copied (tablesBytes fresh) tablesSize tables i
 
 abbrev μ-loop : tie.MeasureT-loop
 μ-loop tables₀ i₀ tables i = tablesSize - i
@@ -36,13 +29,13 @@ returns c =
     record { number = read-back (c .refusal .ensures) ∙ rw other; bytes = rw other }
 
 loop-holds : tie.Need-loop-holds Inv-loop μ-loop
-loop-holds c = record { within = omega arith; long = refl; done = refl }
+loop-holds c = copied-start _ _ _ (c .if1 .left)
 
 fresh-byte-requires : tie.Need-fresh-byte-requires Inv-loop μ-loop
 fresh-byte-requires c κs = search needs
 
 slice-write-tables : tie.Need-slice-write-tables Inv-loop μ-loop
-slice-write-tables c = omega (arith, c .before .before .loop .inv .long, c .before .before .before .if1 .left)
+slice-write-tables c = omega (arith, c .before .before .loop .inv .long)
 
 add-i : tie.Need-add-i Inv-loop μ-loop
 add-i c = omega arith
@@ -53,28 +46,16 @@ loop-less c = omega arith
 loop-again : tie.Need-loop-again Inv-loop μ-loop
 loop-again c =
     let k = c .before .before in
-    let b = k .loop .tables in
-    let i = k .loop .i in
-    let v = c .fresh-byte .result in
-    let size : length b ≡ tablesSize = k .loop .inv .long ∙ k .before .if1 .left in
-    record {
-      within = omega arith;
-      long = length-set b i v ∙ k .loop .inv .long;
-      done = copy-next b (tablesBytes fresh) i v 0 (omega (arith, size)) (omega (arith, fresh-size)) (k .loop .inv .done) (c .fresh-byte .ensures ∙ fresh-byte i (omega arith));
-    }
+    copied-next (tablesBytes fresh) tablesSize (k .loop .tables) (k .loop .i) _ 0 (k .loop .inv) (omega arith) (omega (arith, fresh-size)) (c .fresh-byte .ensures ∙ fresh-byte (k .loop .i) (omega arith))
 
 same-length : tie.Need-same-length Inv-loop μ-loop
-same-length c = c .before .loop .inv .long
+same-length c = c .before .loop .inv .long ∙ sym (c .before .before .if1 .left)
 
 returns-2 : tie.Need-returns-2 Inv-loop μ-loop
 returns-2 c =
     let k = c .before in
-    let b = k .loop .tables in
     let same = eq-eqb (length (now (k .before .before .before .args .tables))) tablesSize (k .before .if1 .left) in
-    let size : length b ≡ tablesSize = k .loop .inv .long ∙ k .before .if1 .left in
-    let i : k .loop .i ≡ tablesSize = omega (arith, k .loop .inv .within) in
-    let laid : b ≡ tablesBytes fresh =
-    sym (take-all tablesSize b (omega (arith, size))) ∙ (rw i at (k .loop .inv .done)) ∙ take-all tablesSize (tablesBytes fresh) (omega (arith, fresh-size)) in
+    let laid = copied-all _ tablesSize (k .loop .tables) (k .loop .i) (k .loop .inv) (omega arith) ∙ take-all tablesSize (tablesBytes fresh) (omega (arith, fresh-size)) in
     record { number = rw same; bytes = rw same laid }
 
 pub vradomil-fresh-spec : {M : Type 1} → statement M
