@@ -25,7 +25,7 @@ use Rattle.tables.specs.Steps.{Flags, flagged, endFirst}
 use Rattle.rules.specs.Answers.{answered}
 use Rattle.rules.specs.Events.{bitsBelow, waitingSet, clockEffect, interruptEffect}
 use Rattle.tables.proofs.Sound.{Sound, arrivals-fit}
-use Rattle.tables.proofs.Flags.{flags-set}
+use Rattle.arrivals.proofs.Flags.{flags-set}
 use Rattle.tables.proofs.Stored.{end-nobody, flagged-listed}
 
 -- the clock: everybody whose deadline has come, since the cap is the whole list

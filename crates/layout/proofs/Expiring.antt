@@ -12,7 +12,7 @@ use Rattle.tables.specs.declared.State.{State}
 use Rattle.tables.specs.Sizes.{threads}
 use Rattle.tables.specs.Tables.{threadOf, arrivals, expired}
 use Rattle.tables.specs.Steps.{Flags, flagged}
-use Rattle.tables.proofs.Flags.{flags-set}
+use Rattle.arrivals.proofs.Flags.{flags-set}
 use Rattle.tables.proofs.Sound.{Sound, listed-waiting}
 
 -- the flags of the threads that a list names are filled, and no other is set

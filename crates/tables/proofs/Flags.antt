@@ -9,7 +9,7 @@ use lib.Dec.{eqb, ltb}
 use borrow.Author.Tests.{eq-eqb, ne-eqb, ltb-true, ltb-false}
 use Rattle.lists.proofs.Tests.{cases, lt-of-le-ne}
 use Rattle.lists.proofs.Filter.{getD-replicated}
-pub use Rattle.arrivals.proofs.Flags.{flag-here, flag-there, flags-set, flags-next}
+use Rattle.arrivals.proofs.Flags.{flag-there, flags-set, flags-next}
 use Rattle.tables.specs.Sizes.{threadsPerProcess, threads}
 use Rattle.tables.specs.declared.State.{State}
 use Rattle.tables.specs.declared.Thread.{Thread}
@@ -48,7 +48,7 @@ process-start f base =
       over = λ t h. getD-replicated threads t false;
     }
 
-pub process-next : (f : ℕ → Bool) (base : ℕ) (flags : List Bool) (i : ℕ) (v : Bool) → Process f base flags i → i < threadsPerProcess
+process-next : (f : ℕ → Bool) (base : ℕ) (flags : List Bool) (i : ℕ) (v : Bool) → Process f base flags i → i < threadsPerProcess
     → base + i < threads → v ≡ f (base + i) → Process f base (set flags (base + i) v) (i + 1)
 process-next f base flags i v g more low is =
     record {
@@ -60,7 +60,7 @@ process-next f base flags i v g more low is =
     }
 
 -- no thread of another process passes
-pub process-all : (p : ℕ) (shares sleeps : ℕ → Bool) (flags : List Bool) (i : ℕ)
+process-all : (p : ℕ) (shares sleeps : ℕ → Bool) (flags : List Bool) (i : ℕ)
     → Process (λ t. shares t && (eqb (processOf t) p && sleeps t)) (threadsPerProcess * p) flags i → threadsPerProcess ≤ i
     → Flags flags (λ t. shares t && (eqb (processOf t) p && sleeps t))
 process-all p shares sleeps flags i g end t h =
