@@ -18,12 +18,12 @@ fn spaced(n: u64) {
     number(n);
 }
 
-pub fn line(n: u64) {
+pub(crate) fn line(n: u64) {
     number(n);
     text(b"\n");
 }
 
-pub fn answer(a: Answer) {
+pub(crate) fn answer(a: Answer) {
     match a {
         Answer::Asleep => text(b"asleep\n"),
         Answer::Count(n) => line(n as u64),
@@ -90,7 +90,7 @@ fn threads(s: State) {
     }
 }
 
-pub fn tables(s: State) {
+pub(crate) fn tables(s: State) {
     text(b"clock");
     spaced(s.clock);
     text(b" count");

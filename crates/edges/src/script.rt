@@ -8,7 +8,7 @@ use tables::THREADS;
 use tables::Thread;
 
 // The kind of the next record; 0 at the end of the script.
-pub fn next_kind() -> u8 {
+pub(crate) fn next_kind() -> u8 {
     let mut one = [0u8; 1];
     let n = io::read_full(0, &mut one);
     if n == 0 { 0 } else { one[0] }
@@ -31,7 +31,7 @@ fn body_length(kind: u8) -> usize
 }
 
 // The body of a record, with zeros behind it.
-pub fn body(kind: u8) -> [u8; 32] {
+pub(crate) fn body(kind: u8) -> [u8; 32] {
     let mut all = [0u8; 32];
     let n = body_length(kind);
     io::read_full(0, &mut all[..n]);
@@ -46,7 +46,7 @@ fn byte(b: [u8; 32], i: usize) -> u32
 }
 
 // A number at a place of a body. The callers in this crate hand it a place of the paper's layout.
-pub fn u32_at(b: [u8; 32], at: usize) -> u32
+pub(crate) fn u32_at(b: [u8; 32], at: usize) -> u32
     requires { ⌜ at ≤ 28 ⌝ }
 {
     let b0 = byte(b, at);
@@ -57,7 +57,7 @@ pub fn u32_at(b: [u8; 32], at: usize) -> u32
 }
 
 // It is called as u32_at is.
-pub fn u64_at(b: [u8; 32], at: usize) -> u64
+pub(crate) fn u64_at(b: [u8; 32], at: usize) -> u64
     requires { ⌜ at ≤ 24 ⌝ }
 {
     let low = u32_at(b, at);
@@ -66,11 +66,11 @@ pub fn u64_at(b: [u8; 32], at: usize) -> u64
 }
 
 // Kinds 1 to 4 as in a log, and a panel query.
-pub fn is_event(kind: u8) -> bool {
+pub(crate) fn is_event(kind: u8) -> bool {
     (kind <= 4) | (kind == 81)
 }
 
-pub fn event_of(kind: u8, b: [u8; 32]) -> Event {
+pub(crate) fn event_of(kind: u8, b: [u8; 32]) -> Event {
     match kind {
         1 => Event::Call(call_of(b)),
         2 => Event::Store {
@@ -110,7 +110,7 @@ fn last_of(code: u64) -> LastAnswer {
     }
 }
 
-pub fn last_code(a: LastAnswer) -> u64 {
+pub(crate) fn last_code(a: LastAnswer) -> u64 {
     match a {
         LastAnswer::NoneYet => 0,
         LastAnswer::Woken => 1,
@@ -144,7 +144,7 @@ fn poked(t: Thread, field: u8, v: u64) -> Thread {
 }
 
 // One field of the tables set.
-pub fn poke(mut s: State, b: [u8; 32]) -> State {
+pub(crate) fn poke(mut s: State, b: [u8; 32]) -> State {
     let field = b[0];
     let i = (b[1] as usize) % THREADS;
     let v = u64_at(b, 2);

@@ -5,7 +5,7 @@ ghost use Rattle.rules.specs.declared.answer.Answer.the-variants.{Refused};
 ghost use Rattle.vradomil.specs.Host.{Numbered};
 use rules::answer::Errno;
 
-pub fn refusal(x: Errno) -> i32
+pub(crate) fn refusal(x: Errno) -> i32
     ensures { λ r. ⌜ Numbered (Refused x) r × SFits w32 r ⌝ }
 {
     let n = x.number();

@@ -15,7 +15,7 @@ use tables::WORDS;
 const WORDS_SIZE: usize = WORD_SIZE * WORDS;
 
 // The first two rows of the table of answers.
-pub fn judge_buffers(tables: &[u8], words: &[u8]) -> Verdict
+pub(crate) fn judge_buffers(tables: &[u8], words: &[u8]) -> Verdict
     ensures { λ r. ⌜ BuffersJudged (now (tables .entry)) (now (words .entry)) r ⌝ }
 {
     if words.len() != WORDS_SIZE {
@@ -29,7 +29,7 @@ pub fn judge_buffers(tables: &[u8], words: &[u8]) -> Verdict
 }
 
 // A word. It is called on words of the right length.
-pub fn word_at(words: &[u8], i: usize) -> u32
+pub(crate) fn word_at(words: &[u8], i: usize) -> u32
     requires { ⌜ (length (now words) ≡ memorySize) × (i < memoryWords) ⌝ }
     ensures { λ r. ⌜ r ≡ getD (wordsAt (now (words .entry))) i 0 ⌝ }
 {
