@@ -3,22 +3,34 @@ use mathlib.Core.Path.{_≡_, refl, sym, ap, _∙_}
 use mathlib.Core.List.{List}
 use Prim.Native.Nat.{ℕ, _+_, _≤_, _<_}
 use native.Mathlib.Omega.{arith}
-use lib.ListN.{length, take, getD, set}
+use lib.ListN.{length, take, getD, set, length-set}
+use lib.Seq.{getD-set-same, set-set}
 use Rattle.tables.specs.declared.State.{State}
 use Rattle.tables.specs.declared.Thread.{Thread}
 use Rattle.tables.specs.declared.Change.{Change}
 use Rattle.tables.specs.Sizes.{threads}
-use Rattle.tables.specs.Tables.{threadOf, change, withThreads}
+use Rattle.tables.specs.Tables.{freshThread, threadOf, change, withThreads}
 use Rattle.tables.specs.Steps.{changedBy}
 use Rattle.tables.proofs.Changes.{length-change, change-none, changed-next}
 use Rattle.layout.specs.Layout.{tablesSize, tablesBytes}
-use Rattle.changes.specs.Change.{Whole, Writes}
+use Rattle.changes.specs.Change.{Whole, atThread, Writes}
 
 pub whole-threads : (s : State) (rs : List Thread) → length rs ≡ threads → Whole s → Whole (withThreads rs s)
 whole-threads s rs size w = record { records = size; entries = w .entries }
 
 pub whole-change : (f : Thread → Thread) (ts : List ℕ) (s : State) → Whole s → Whole (withThreads (change f ts (s .threads)) s)
 whole-change f ts s w = whole-threads s (change f ts (s .threads)) (length-change f ts (s .threads) ∙ w .records) w
+
+pub whole-at : (i : ℕ) (f : Thread → Thread) (s : State) → Whole s → Whole (atThread i f s)
+whole-at i f s w = whole-threads s (set (s .threads) i (f (threadOf s i))) (length-set (s .threads) i (f (threadOf s i)) ∙ w .records) w
+
+-- a record that is changed twice
+pub at-twice : (i : ℕ) (f g : Thread → Thread) (s : State) → Whole s → i < threads
+    → tablesBytes (atThread i g (atThread i f s)) ≡ tablesBytes (atThread i (λ r. g (f r)) s)
+at-twice i f g s w low =
+    let new = f (threadOf s i) in
+    let now-is : threadOf (atThread i f s) i ≡ new = getD-set-same (s .threads) i new freshThread (omega (arith, w .records)) in
+    ap (λ rs. tablesBytes (withThreads rs s)) (ap (λ r. set (set (s .threads) i new) i (g r)) now-is ∙ set-set (s .threads) i new (g new))
 
 -- the first i threads are changed
 pub record Changed (how : Change) (b₀ ts : List ℕ) (n : ℕ) (b : List ℕ) (i : ℕ) : Type 0 where

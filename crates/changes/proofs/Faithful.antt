@@ -16,9 +16,8 @@ use Rattle.lists.proofs.Count.{everyBelow-intro}
 use Rattle.lists.proofs.Tabulate.{length-tabulate, getD-tabulate}
 use Rattle.tables.specs.declared.State.{State}
 use Rattle.tables.specs.declared.Thread.{Thread}
-use Rattle.tables.specs.declared.LastAnswer.the-variants.{NoneYet}
 use Rattle.tables.specs.Sizes.{threads, wordBytes}
-use Rattle.tables.specs.Tables.{running, threadOf}
+use Rattle.tables.specs.Tables.{freshThread, threadOf}
 use Rattle.layout.specs.Layout.{timeBytes, column, columns, concat, lastByte, maxLast, lastOf, waitingByte, timedByte, tablesBytes, tablesAt, stateAt, threadAt, tablesSize, flagsOk, clockAt, waitingAt, timedAt, lastAt, uaddrAt, bitsetAt, deadlineAt}
 use Rattle.layout.proofs.Columns.{length-column, entry-read, before, get-column, column-read}
 use Rattle.layout.proofs.Exact.{sizes, last-low, last-back}
@@ -44,7 +43,7 @@ module _ (s : State) (b : List ℕ) (h : Stands s b) (fit : Fits s) where
       ap (λ l. numberAt w k l) (h .bytes)
       ∙ ap (λ n. numberAt w n (concat (columns s))) there
       ∙ ap le (get-column (columns s) j (w * i) w (rw long inside) ∙ ap (λ c. take w (drop (w * i) c)) is
-      ∙ entry-read w f (s .threads) i (running NoneYet) (omega (arith, shape .records)))
+      ∙ entry-read w f (s .threads) i freshThread (omega (arith, shape .records)))
       ∙ le-bytes w (f (threadOf s i)) small
 
   byte-read : (j at : ℕ) (f : Thread → ℕ) → before j sizes ≡ at → at + threads ≤ tablesSize → getD (columns s) j [] ≡ column 1 f (s .threads) → (i : ℕ) → i < threads
@@ -83,8 +82,8 @@ module _ (s : State) (b : List ℕ) (h : Stands s b) (fit : Fits s) where
       let clock : numberAt timeBytes clockAt b ≡ s .clock =
       ap (λ l. numberAt timeBytes clockAt l) (h .bytes) ∙ ap le (column-read (columns s) (sized s shape) 0 clockAt timeBytes (bytes timeBytes (s .clock)) refl refl refl) ∙ le-bytes timeBytes (s .clock) (fit .clock) in
       let records : tabulate threads (threadAt b) ≡ s .threads =
-      ext-getD (running NoneYet) (tabulate threads (threadAt b)) (s .threads) (length-tabulate threads (threadAt b) ∙ sym (shape .records))
-      (λ i l. let low : i < threads = omega (arith, length-tabulate threads (threadAt b)) in getD-tabulate threads (threadAt b) i (running NoneYet) low ∙ thread-back i low) in
+      ext-getD freshThread (tabulate threads (threadAt b)) (s .threads) (length-tabulate threads (threadAt b) ∙ sym (shape .records))
+      (λ i l. let low : i < threads = omega (arith, length-tabulate threads (threadAt b)) in getD-tabulate threads (threadAt b) i freshThread low ∙ thread-back i low) in
       let list = list-held s b h in
       let count = count-held s b h in
       λ j. record { clock = clock j; threads = records j; list = list j; count = count j }

@@ -1,20 +1,22 @@
 -- A store in a column of the tables' bytes is a change of the tables.
-use mathlib.Core.Path.{_≡_, refl, sym, ap, _∙_}
+use mathlib.Core.Path.{_≡_, refl, sym, ap, _∙_, subst}
+use mathlib.Core.Bool.{Bool}
 use mathlib.Core.List.{List, [], _∷_, map}
 use Prim.Native.Nat.{ℕ, zero, suc, _+_, _*_, _≤_, _<_}
 use native.Mathlib.Omega.{arith}
 use lib.ListN.{length, getD, set}
-use lib.Seq.{sets, length-sets}
+use lib.Seq.{sets, length-sets, set-getD}
+use Rattle.lists.specs.Lists.{bit}
 use Rattle.lists.specs.LittleEndian.{bytes}
 use Rattle.lists.proofs.Stores.{sets-all}
 use Rattle.lists.proofs.LittleEndian.{length-bytes}
 use Rattle.tables.specs.declared.State.{State}
 use Rattle.tables.specs.declared.Thread.{Thread}
-use Rattle.tables.specs.declared.LastAnswer.the-variants.{NoneYet}
+use Rattle.tables.specs.declared.LastAnswer.{LastAnswer}
 use Rattle.tables.specs.Sizes.{threads, wordBytes}
-use Rattle.tables.specs.Tables.{running, threadOf, movedTo, withThreads, withClock}
+use Rattle.tables.specs.Tables.{freshThread, threadOf, withSleep, withLast, movedTo, withClock}
 use Rattle.layout.specs.Layout.{timeBytes, column, columns, concat, tablesBytes, lastByte, waitingByte, timedByte, clockAt, countAt, listAt, waitingAt, timedAt, lastAt, uaddrAt, bitsetAt, deadlineAt}
-use Rattle.changes.specs.Change.{Whole}
+use Rattle.changes.specs.Change.{Whole, atThread}
 use Rattle.layout.proofs.Columns.{length-column, column-set, column-same, before, put-column}
 use Rattle.layout.proofs.Exact.{sizes}
 
@@ -65,34 +67,52 @@ module _ (s : State) (w : Whole s) where
     field cs b j n f at c is place fits =
         put b cs _ c j (n * i) at (bytes n (f r)) place (rw length-bytes fits) _ (ap (λ l. sets l (n * i) (bytes n (f r))) is ∙ new n f) refl
 
-    pub thread-put : (b : List ℕ) → b ≡ tablesBytes s
-        → sets (sets (sets (sets (sets (sets b (waitingAt + i) (bytes 1 (waitingByte r))) (timedAt + i) (bytes 1 (timedByte r))) (lastAt + i) (bytes 1 (lastByte (r .last)))) (uaddrAt + wordBytes * i) (bytes wordBytes (r .uaddr))) (bitsetAt + wordBytes * i) (bytes wordBytes (r .bitset))) (deadlineAt + timeBytes * i) (bytes timeBytes (r .deadline))
-        ≡ tablesBytes (withThreads (set (s .threads) i r) s)
-    unfolding tablesBytes
-    thread-put b is =
-        let c3 = field (columns s) b 3 1 waitingByte (waitingAt + i) (record { stored = is; sized = sized }) refl (omega arith) (omega arith) in
-        let c4 = field _ _ 4 1 timedByte (timedAt + i) c3 refl (omega arith) (omega arith) in
-        let c5 = field _ _ 5 1 (λ q. lastByte (q .last)) (lastAt + i) c4 refl (omega arith) (omega arith) in
-        let c6 = field _ _ 6 wordBytes (λ q. q .uaddr) (uaddrAt + wordBytes * i) c5 refl (omega arith) (omega arith) in
-        let c7 = field _ _ 7 wordBytes (λ q. q .bitset) (bitsetAt + wordBytes * i) c6 refl (omega arith) (omega arith) in
-        field _ _ 8 timeBytes (λ q. q .deadline) (deadlineAt + timeBytes * i) c7 refl (omega arith) (omega arith) .stored
+    -- a field that the record keeps, which is not stored
+    kept : (cs : List (List ℕ)) (b : List ℕ) (j n : ℕ) (f : Thread → ℕ) → InColumns b cs → getD cs j [] ≡ column n f (s .threads)
+        → f r ≡ f (threadOf s i) → InColumns b (set cs j (column n f (set (s .threads) i r)))
+    kept cs b j n f c is same =
+        let column-is = column-same n f (s .threads) i r freshThread same ∙ sym is in
+        subst (InColumns b) (sym (set-getD cs j []) ∙ ap (set cs j) (sym column-is)) c
+
+  -- the sleep of a thread
+  pub sleep-put : (i : ℕ) → i < threads → (waiting : Bool) (a m : ℕ) (timed : Bool) (due : ℕ) (b : List ℕ) → b ≡ tablesBytes s
+      → sets (sets (sets (sets (sets b (waitingAt + i) (bytes 1 (bit waiting))) (timedAt + i) (bytes 1 (bit timed))) (uaddrAt + wordBytes * i) (bytes wordBytes a)) (bitsetAt + wordBytes * i) (bytes wordBytes m)) (deadlineAt + timeBytes * i) (bytes timeBytes due)
+      ≡ tablesBytes (atThread i (withSleep waiting a m timed due) s)
+  unfolding tablesBytes
+  sleep-put i low waiting a m timed due b is =
+      let r = withSleep waiting a m timed due (threadOf s i) in
+      let c3 = field i low r (columns s) b 3 1 waitingByte (waitingAt + i) (record { stored = is; sized = sized }) refl (omega arith) (omega arith) in
+      let c4 = field i low r _ _ 4 1 timedByte (timedAt + i) c3 refl (omega arith) (omega arith) in
+      let c5 = kept i low r _ _ 5 1 (λ q. lastByte (q .last)) c4 refl refl in
+      let c6 = field i low r _ _ 6 wordBytes (λ q. q .uaddr) (uaddrAt + wordBytes * i) c5 refl (omega arith) (omega arith) in
+      let c7 = field i low r _ _ 7 wordBytes (λ q. q .bitset) (bitsetAt + wordBytes * i) c6 refl (omega arith) (omega arith) in
+      field i low r _ _ 8 timeBytes (λ q. q .deadline) (deadlineAt + timeBytes * i) c7 refl (omega arith) (omega arith) .stored
+
+  -- the last answer of a thread
+  pub last-put : (i : ℕ) → i < threads → (a : LastAnswer) (b : List ℕ) → b ≡ tablesBytes s
+      → sets b (lastAt + i) (bytes 1 (lastByte a)) ≡ tablesBytes (atThread i (withLast a) s)
+  unfolding tablesBytes
+  last-put i low a b is =
+      let r = withLast a (threadOf s i) in
+      let c3 = kept i low r (columns s) b 3 1 waitingByte (record { stored = is; sized = sized }) refl refl in
+      let c4 = kept i low r _ _ 4 1 timedByte c3 refl refl in
+      let c5 = field i low r _ _ 5 1 (λ q. lastByte (q .last)) (lastAt + i) c4 refl (omega arith) (omega arith) in
+      let c6 = kept i low r _ _ 6 wordBytes (λ q. q .uaddr) c5 refl refl in
+      let c7 = kept i low r _ _ 7 wordBytes (λ q. q .bitset) c6 refl refl in
+      kept i low r _ _ 8 timeBytes (λ q. q .deadline) c7 refl refl .stored
 
   -- the address of a thread
-  pub address-put : (i a : ℕ) → i < threads → (b : List ℕ) → b ≡ tablesBytes s
-      → sets b (uaddrAt + wordBytes * i) (bytes wordBytes a) ≡ tablesBytes (withThreads (set (s .threads) i (movedTo a (threadOf s i))) s)
+  pub address-put : (i : ℕ) → i < threads → (a : ℕ) (b : List ℕ) → b ≡ tablesBytes s
+      → sets b (uaddrAt + wordBytes * i) (bytes wordBytes a) ≡ tablesBytes (atThread i (movedTo a) s)
   unfolding tablesBytes
-  address-put i a low b is =
+  address-put i low a b is =
       let r = movedTo a (threadOf s i) in
-      let ts = set (s .threads) i r in
-      let same : (n : ℕ) (f : Thread → ℕ) → f r ≡ f (threadOf s i) → column n f (s .threads) ≡ column n f ts =
-      λ n f e. sym (column-same n f (s .threads) i r (running NoneYet) e) in
-      let e3 = same 1 waitingByte refl in
-      let e4 = same 1 timedByte refl in
-      let e5 = same 1 (λ q. lastByte (q .last)) refl in
-      let e7 = same wordBytes (λ q. q .bitset) refl in
-      let e8 = same timeBytes (λ q. q .deadline) refl in
-      field i low r (columns s) b 6 wordBytes (λ q. q .uaddr) (uaddrAt + wordBytes * i) (record { stored = is; sized = sized }) refl (omega arith) (omega arith) .stored
-      ∙ (λ j. concat (bytes timeBytes (s .clock) ∷ bytes timeBytes (s .count) ∷ s .list ∷ e3 j ∷ e4 j ∷ e5 j ∷ column wordBytes (λ q. q .uaddr) ts ∷ e7 j ∷ e8 j ∷ []))
+      let c3 = kept i low r (columns s) b 3 1 waitingByte (record { stored = is; sized = sized }) refl refl in
+      let c4 = kept i low r _ _ 4 1 timedByte c3 refl refl in
+      let c5 = kept i low r _ _ 5 1 (λ q. lastByte (q .last)) c4 refl refl in
+      let c6 = field i low r _ _ 6 wordBytes (λ q. q .uaddr) (uaddrAt + wordBytes * i) c5 refl (omega arith) (omega arith) in
+      let c7 = kept i low r _ _ 7 wordBytes (λ q. q .bitset) c6 refl refl in
+      kept i low r _ _ 8 timeBytes (λ q. q .deadline) c7 refl refl .stored
 
   -- the list, or one entry of it, and the count
   counted : (l : List ℕ) (b : List ℕ) (n : ℕ) → InColumns b (set (columns s) 2 l)

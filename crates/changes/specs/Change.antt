@@ -3,18 +3,22 @@ use mathlib.Core.Path.{_≡_}
 use mathlib.Core.Bool.{true}
 use mathlib.Core.List.{List}
 use Prim.Native.Nat.{ℕ, _<_}
-use lib.ListN.{length}
+use lib.ListN.{length, set}
 use Rattle.tables.specs.declared.State.{State}
 use Rattle.tables.specs.declared.Thread.{Thread}
 use Rattle.tables.specs.declared.Taken.{Taken}
 use Rattle.tables.specs.Sizes.{threads, wordLimit, timeLimit}
-use Rattle.tables.specs.Tables.{threadOf, tablesOk}
+use Rattle.tables.specs.Tables.{threadOf, withThreads, tablesOk}
 use Rattle.layout.specs.Layout.{tablesBytes}
 
 -- "64 thread records and one arrival list"
 pub record Whole (s : State) : Type 0 where
   pub records : length (s .threads) ≡ threads
   pub entries : length (s .list) ≡ threads
+
+-- the record of thread i changed, and all else kept
+abbrev pub atThread : ℕ → (Thread → Thread) → State → State
+atThread i f s = withThreads (set (s .threads) i (f (threadOf s i))) s
 
 -- Bytes of tables become the bytes of the changed tables.
 abbrev pub Writes : (State → State) → List ℕ → List ℕ → Type 0

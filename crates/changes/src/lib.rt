@@ -1,15 +1,15 @@
 // Changes: the changes of the tables, on their bytes where they lie. It stands on layout.
 ghost use mathlib.Core.Path.{_≡_};
 ghost use Prim.Native.Nat.{_<_};
-ghost use lib.ListN.{length, take, set};
+ghost use lib.ListN.{length, take};
 ghost use Rattle.lists.specs.Lists.{bit};
 ghost use Rattle.tables.specs.declared.Change.the-variants.{End, MoveTo};
 ghost use Rattle.tables.specs.Sizes.{threads};
-ghost use Rattle.tables.specs.Tables.{change, withThreads, asleepAt, fallAsleep};
+ghost use Rattle.tables.specs.Tables.{change, withThreads, withSleep, ended, asleepAt, fallAsleep};
 ghost use Rattle.tables.specs.Steps.{Numbers, changedBy, flagged, endFirst, moveFirst};
 ghost use Rattle.layout.specs.Layout.{lastByte, tablesSize, stateAt, tablesBytes};
 ghost use Rattle.layout.specs.Check.{Held};
-ghost use Rattle.changes.specs.Change.{Writes, Standing, WritesTaken};
+ghost use Rattle.changes.specs.Change.{atThread, Writes, Standing, WritesTaken};
 use arrivals::index_of;
 use arrivals::joined;
 use arrivals::split;
@@ -24,13 +24,12 @@ use layout::UADDR_AT;
 use layout::WAITING_AT;
 use layout::WORD_SIZE;
 use layout::read::list_at;
-use layout::read::thread_at;
 use numbers::put_u32;
 use numbers::put_u64;
 use numbers::u64_at;
 use tables::LastAnswer;
 use tables::THREADS;
-use tables::Thread;
+use tables::stored_deadline;
 
 fn flag_byte(x: bool) -> u8
     ensures { λ r. ⌜ r ≡ bit x ⌝ }
@@ -49,21 +48,36 @@ fn last_byte(last: LastAnswer) -> u8
     }
 }
 
-// The record of a thread.
-fn put_thread(b: &mut [u8], i: usize, t: Thread)
+// Another sleep of a thread: only the columns that hold it are written.
+fn put_sleep(
+    b: &mut [u8],
+    i: usize,
+    waiting: bool,
+    uaddr: u32,
+    bitset: u32,
+    timed: bool,
+    deadline: u64,
+)
     requires { ⌜ (length (now b) ≡ tablesSize) × (i < threads) ⌝ }
-    ensures { λ _. ⌜ Writes (λ s. withThreads (set (s .threads) i t) s) (now (b .entry)) (now (b .exit)) ⌝ }
+    ensures { λ _. ⌜ Writes (atThread i (withSleep waiting uaddr bitset timed deadline)) (now (b .entry)) (now (b .exit)) ⌝ }
 {
-    let waiting = flag_byte(t.waiting);
-    let timed = flag_byte(t.timed);
-    let last = t.last;
+    let asleep = flag_byte(waiting);
+    let due = flag_byte(timed);
+    b[WAITING_AT + i] = asleep;
+    b[TIMED_AT + i] = due;
+    put_u32(b, UADDR_AT + WORD_SIZE * i, uaddr);
+    put_u32(b, BITSET_AT + WORD_SIZE * i, bitset);
+    put_u64(b, DEADLINE_AT + TIME_SIZE * i, deadline);
+}
+
+// The sleep of a thread is over, with the answer.
+fn end_sleep(b: &mut [u8], i: usize, last: LastAnswer)
+    requires { ⌜ (length (now b) ≡ tablesSize) × (i < threads) ⌝ }
+    ensures { λ _. ⌜ Writes (atThread i (ended last)) (now (b .entry)) (now (b .exit)) ⌝ }
+{
     let answer = last_byte(last);
-    b[WAITING_AT + i] = waiting;
-    b[TIMED_AT + i] = timed;
+    put_sleep(b, i, false, 0, 0, false, 0);
     b[LAST_AT + i] = answer;
-    put_u32(b, UADDR_AT + WORD_SIZE * i, t.uaddr);
-    put_u32(b, BITSET_AT + WORD_SIZE * i, t.bitset);
-    put_u64(b, DEADLINE_AT + TIME_SIZE * i, t.deadline);
 }
 
 // The arrival list and its count.
@@ -87,8 +101,7 @@ fn end_all(b: &mut [u8], ts: [u8; THREADS], n: usize, last: LastAnswer)
     let mut i: usize = 0;
     while i < n {
         let x = index_of(ts[i]);
-        let t = Thread::running(last);
-        put_thread(b, x, t);
+        end_sleep(b, x, last);
         i += 1;
     }
 }
@@ -143,10 +156,9 @@ pub fn fall_asleep(b: &mut [u8], t: usize, uaddr: u32, bitset: u32, timed: bool,
     requires { ⌜ Held (now b) × ((t < threads) × (stateAt (now b) .count < threads)) ⌝ }
     ensures { λ _. ⌜ now (b .exit) ≡ tablesBytes (fallAsleep (asleepAt uaddr bitset timed deadline) t (stateAt (now (b .entry)))) ⌝ }
 {
-    let old = thread_at(b, t);
-    let new = old.asleep_at(uaddr, bitset, timed, deadline);
+    let due = stored_deadline(timed, deadline);
     let n = u64_at(b, COUNT_AT) as usize;
-    put_thread(b, t, new);
+    put_sleep(b, t, true, uaddr, bitset, timed, due);
     b[LIST_AT + n] = t as u8;
     put_u64(b, COUNT_AT, (n + 1) as u64);
 }

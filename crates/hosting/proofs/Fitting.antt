@@ -18,7 +18,7 @@ use Rattle.rules.specs.declared.event.Call.{Call}
 use Rattle.rules.specs.declared.event.Event.{Event}
 use Rattle.rules.specs.declared.event.Event.the-variants.{Call as CallEvent, Store, Clock, Interrupt, Query}
 use Rattle.tables.specs.Sizes.{threads, matchAny, wordBytes}
-use Rattle.tables.specs.Tables.{World, threadNumber, running, threadOf, asleepAt, endSleeps, moveSleeps, fallAsleep, writeWord, wordAt}
+use Rattle.tables.specs.Tables.{World, threadNumber, freshThread, ended, threadOf, asleepAt, endSleeps, moveSleeps, fallAsleep, writeWord, wordAt}
 use Rattle.rules.specs.Commands.{commandOf, uses}
 use Rattle.rules.specs.WakeOp.{opField, opArg, opCode, operand, newWord}
 use Rattle.rules.specs.Calls.{maskOf, timeoutGiven, deadlineOf, wait, wake, requeue, wakeOp, callEffect}
@@ -35,8 +35,11 @@ pub record FitsWorld (w : World) : Type 0 where
   pub words : WordsFit (w .words)
 
 -- a record
-pub running-fits : (a : LastAnswer) → FitsThread (running a)
-running-fits a = record { uaddr = omega arith; bitset = omega arith; deadline = omega arith }
+pub fresh-thread-fits : FitsThread freshThread
+fresh-thread-fits = record { uaddr = omega arith; bitset = omega arith; deadline = omega arith }
+
+ended-fits : (a : LastAnswer) (r : Thread) → FitsThread (ended a r)
+ended-fits a r = record { uaddr = omega arith; bitset = omega arith; deadline = omega arith }
 
 choose : (b : Bool) (x y n : ℕ) → x < n → y < n → cond b x y < n
 choose true x y n h k = h
@@ -64,10 +67,10 @@ thread-fits e w t f low g = by (fate e w t)
     by : Fate e w t → FitsThread (threadOf (step e w .world .state) t)
     by (stays is) = at (threadOf (w .state) t) is old
     by (sleeps c same who s is) = at _ is (asleep-fits c w (threadOf (w .state) t) (subst EventFits same f))
-    by (wakes c same there is) = at _ is (running-fits _)
+    by (wakes c same there is) = at _ is (ended-fits _ (threadOf (w .state) t))
     by (moves c same there is) = at _ is (record { uaddr = subst EventFits same f .uaddr2; bitset = old .bitset; deadline = old .deadline })
-    by (timesOut now same there is) = at _ is (running-fits _)
-    by (isInterrupted p i same who there is) = at _ is (running-fits _)
+    by (timesOut now same there is) = at _ is (ended-fits _ (threadOf (w .state) t))
+    by (isInterrupted p i same who there is) = at _ is (ended-fits _ (threadOf (w .state) t))
 
 -- a word
 operand-low : (v : ℕ) → operand v < 2 ^ 32

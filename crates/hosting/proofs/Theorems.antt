@@ -7,9 +7,8 @@ use lib.IntN.{ℤ}
 use lib.ListN.{length}
 use Rattle.lists.proofs.Filter.{getD-replicated}
 use Rattle.rules.specs.declared.event.Event.{Event}
-use Rattle.tables.specs.declared.LastAnswer.the-variants.{NoneYet}
 use Rattle.tables.specs.Sizes.{threads, bytesPerProcess, memoryWords}
-use Rattle.tables.specs.Tables.{wordAt, fresh, running, threadOf}
+use Rattle.tables.specs.Tables.{wordAt, fresh, freshThread, threadOf}
 use Rattle.rules.specs.History.{start, final, answers, keptFor, entriesOf}
 use Rattle.rules.specs.Claims.{Alike}
 use Rattle.rules.proofs.Preserved.{start-valid}
@@ -21,7 +20,7 @@ use Rattle.changes.specs.Change.{Fits}
 use Rattle.vradomil.specs.Host.{seen}
 use Rattle.vradomil.proofs.Memory.{words-length, word-fits}
 use Rattle.hosting.specs.Hosts.{HostRuns, hostNumber}
-use Rattle.hosting.proofs.Fitting.{running-fits}
+use Rattle.hosting.proofs.Fitting.{fresh-thread-fits}
 use Rattle.hosting.proofs.Hosting.{Stand, seen-is, ran, entries-map}
 
 fresh-fits : Fits fresh
@@ -29,8 +28,8 @@ unfolding fresh
 fresh-fits =
     record {
       clock = omega arith;
-      records = λ i low. let e : threadOf fresh i ≡ running NoneYet = getD-replicated threads i (running NoneYet) in
-          rw e (running-fits NoneYet);
+      records = λ i low. let e : threadOf fresh i ≡ freshThread = getD-replicated threads i freshThread in
+          rw e (fresh-thread-fits);
     }
 
 -- fresh tables, as vradomil_fresh lays them down, and any buffer of words

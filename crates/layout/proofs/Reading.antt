@@ -5,14 +5,13 @@ use Prim.Native.Nat.{ℕ, _<_}
 use lib.ListN.{take, drop}
 use Rattle.lists.specs.LittleEndian.{numberAt}
 use Rattle.lists.proofs.Tabulate.{getD-tabulate}
-use Rattle.tables.specs.declared.LastAnswer.the-variants.{NoneYet}
 use Rattle.tables.specs.Sizes.{threads}
-use Rattle.tables.specs.Tables.{running, threadOf}
+use Rattle.tables.specs.Tables.{freshThread, threadOf}
 use Rattle.layout.specs.Layout.{timeBytes, clockAt, countAt, listAt, threadAt, stateAt}
 
 pub thread-read : (b : List ℕ) (t : ℕ) → t < threads → threadOf (stateAt b) t ≡ threadAt b t
 unfolding stateAt
-thread-read b t h = getD-tabulate threads (threadAt b) t (running NoneYet) h
+thread-read b t h = getD-tabulate threads (threadAt b) t freshThread h
 
 pub count-read : (b : List ℕ) → numberAt timeBytes countAt b ≡ stateAt b .count
 unfolding stateAt

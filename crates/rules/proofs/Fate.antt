@@ -7,12 +7,11 @@ use Rattle.lists.specs.Lists.{elem}
 use Rattle.lists.proofs.Tests.{cases, by-cases}
 use Rattle.lists.proofs.Filter.{all-filter}
 use Rattle.lists.proofs.Occurs.{elem-one, elem-all}
-use Rattle.tables.specs.declared.LastAnswer.the-variants.{NoneYet}
 use Rattle.rules.specs.declared.event.Call.{Call}
 use Rattle.rules.specs.declared.event.Event.{Event}
 use Rattle.rules.specs.declared.event.Event.the-variants.{Call as CallEvent, Store, Clock, Interrupt, Query}
 use Rattle.rules.specs.declared.answer.Answer.the-variants.{Asleep, Count}
-use Rattle.tables.specs.Tables.{expired, expiredSleepers, World, threadNumber, running, threadOf, arrivals, fallAsleep, writeWord}
+use Rattle.tables.specs.Tables.{expired, expiredSleepers, World, threadNumber, freshThread, threadOf, arrivals, fallAsleep, writeWord}
 use Rattle.rules.specs.Answers.{Outcome}
 use Rattle.rules.specs.Commands.{commandOf}
 use Rattle.rules.specs.Calls.{caller}
@@ -38,8 +37,8 @@ module _ (w : World) (t : ℕ) where
       let it : t ≡ caller c = elem-one t (caller c) e in
       let low = caller-below c (s .process) (s .index) in
       let size = tables-sound (w .state) (s .tables) .records in
-      sleeps c refl it s (left ∙ change-named f (caller c ∷ []) (w .state .threads) t (running NoneYet) e (omega arith)))
-      (λ e. stays (left ∙ change-other f (caller c ∷ []) (w .state .threads) t (running NoneYet) e))
+      sleeps c refl it s (left ∙ change-named f (caller c ∷ []) (w .state .threads) t freshThread e (omega arith)))
+      (λ e. stays (left ∙ change-other f (caller c ∷ []) (w .state .threads) t freshThread e))
 
   taken-fate : (c : Call) (n : ℕ) → step (CallEvent c) w .answer ≡ Count n → Fate (CallEvent c) w t
   taken-fate c n h =

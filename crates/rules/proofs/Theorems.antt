@@ -18,7 +18,7 @@ use Rattle.rules.specs.declared.event.Event.the-variants.{Call as CallEv
 use Rattle.rules.specs.declared.answer.Errno.{Errno}
 use Rattle.rules.specs.declared.answer.Answer.the-variants.{Asleep, Count, Refused}
 use Rattle.tables.specs.Sizes.{bytesPerProcess, memoryWords}
-use Rattle.tables.specs.Tables.{World, threadNumber, processOf, wordAt, running, threadOf, queue, expired, expiredSleepers, tablesOk, withState, fallAsleep}
+use Rattle.tables.specs.Tables.{World, threadNumber, processOf, wordAt, ended, threadOf, queue, expired, expiredSleepers, tablesOk, withState, fallAsleep}
 use Rattle.rules.specs.Answers.{outcome}
 use Rattle.rules.specs.Commands.{commandOf}
 use Rattle.rules.specs.WakeOp.{compares}
@@ -117,7 +117,7 @@ count-local = Local.count-local
 
 -- "every sleeper whose deadline is at or below it ends with -110"
 pub deadline-ends : (now : ℕ) (w : World) (n : ℕ) → step (Clock now) w .answer ≡ Count n
-    → (t : ℕ) → expired now (threadOf (w .state) t) ≡ true → threadOf (step (Clock now) w .world .state) t ≡ running TimedOut
+    → (t : ℕ) → expired now (threadOf (w .state) t) ≡ true → threadOf (step (Clock now) w .world .state) t ≡ ended TimedOut (threadOf (w .state) t)
 deadline-ends now w n h t e = Taken.clock-ends now w n h .ran t (Taken.expired-all now w n h t e)
 
 -- These leave the list, and every other record and the order of every other entry are as they were.

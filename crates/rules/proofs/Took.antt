@@ -13,9 +13,8 @@ use Rattle.lists.proofs.Occurs.{occurs, elem-occurs}
 use Rattle.lists.proofs.Count.{length-count, countBelow-ext}
 use Rattle.tables.specs.declared.State.{State}
 use Rattle.tables.specs.declared.LastAnswer.{LastAnswer}
-use Rattle.tables.specs.declared.LastAnswer.the-variants.{NoneYet}
 use Rattle.tables.specs.Sizes.{threads}
-use Rattle.tables.specs.Tables.{running, threadOf, arrivals, ended, movedTo, withClock, endSleeps, moveSleeps}
+use Rattle.tables.specs.Tables.{freshThread, threadOf, arrivals, ended, movedTo, withClock, endSleeps, moveSleeps}
 use Rattle.rules.specs.Claims.{Took, woke, shifted}
 use Rattle.tables.proofs.Changes.{length-change, change-other, change-named, arrivals-end, arrivals-move}
 use Rattle.tables.proofs.Sound.{Sound, once, none-above}
@@ -36,13 +35,13 @@ took-none a target s =
     }
 
 module _ (a : LastAnswer) (out : List ℕ) (s : State) (size : length (s .threads) ≡ threads) (low : (t : ℕ) → elem t out ≡ true → t < threads) where
-  end-ran : (t : ℕ) → elem t out ≡ true → threadOf (endSleeps a out s) t ≡ running a
+  end-ran : (t : ℕ) → elem t out ≡ true → threadOf (endSleeps a out s) t ≡ ended a (threadOf s t)
   unfolding endSleeps
-  end-ran t e = change-named (ended a) out (s .threads) t (running NoneYet) e (let h = low t e in omega arith)
+  end-ran t e = change-named (ended a) out (s .threads) t freshThread e (let h = low t e in omega arith)
 
   end-stayed : (t : ℕ) → elem t out ≡ false → threadOf (endSleeps a out s) t ≡ threadOf s t
   unfolding endSleeps
-  end-stayed t e = change-other (ended a) out (s .threads) t (running NoneYet) e
+  end-stayed t e = change-other (ended a) out (s .threads) t freshThread e
 
   pub took-end : (target : ℕ) → Took a out [] target s (endSleeps a out s)
   took-end target =
@@ -61,11 +60,11 @@ module _ (a : LastAnswer) (out : List ℕ) (s : State) (size : length (s .thread
       record {
         ran = λ t e. cases (elem t on)
             (λ d. clash (elem t out) e (apart t d))
-            (λ d. change-other (movedTo target) on (u .threads) t (running NoneYet) d ∙ end-ran t e);
+            (λ d. change-other (movedTo target) on (u .threads) t freshThread d ∙ end-ran t e);
         went = λ t d.
-            change-named (movedTo target) on (u .threads) t (running NoneYet) d (let h = below t d in omega (arith, sized))
+            change-named (movedTo target) on (u .threads) t freshThread d (let h = below t d in omega (arith, sized))
             ∙ ap (movedTo target) (end-stayed t (apart t d));
-        stayed = λ t e d. change-other (movedTo target) on (u .threads) t (running NoneYet) d ∙ end-stayed t e;
+        stayed = λ t e d. change-other (movedTo target) on (u .threads) t freshThread d ∙ end-stayed t e;
         order = arrivals-move target on u ∙ ap (λ l. without on l ++ on) (arrivals-end a out s);
       }
     where

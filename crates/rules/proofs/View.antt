@@ -15,11 +15,10 @@ use Rattle.lists.proofs.Occurs.{occurs-filter, occurs-filtered-out, elem-filter
 use Rattle.tables.specs.declared.State.{State}
 use Rattle.tables.specs.declared.Thread.{Thread}
 use Rattle.tables.specs.declared.LastAnswer.{LastAnswer}
-use Rattle.tables.specs.declared.LastAnswer.the-variants.{NoneYet}
 use Rattle.tables.specs.Sizes.{threadsPerProcess, wordsPerProcess, bytesPerProcess}
-use Rattle.tables.specs.Tables.{outside, World, threadNumber, processOf, wordNumber, wordAt, running, threadOf, arrivals, change, ended, movedTo, withArrivals, withThreads, withClock, endSleeps, moveSleeps, fallAsleep, writeWord, withState}
+use Rattle.tables.specs.Tables.{outside, World, threadNumber, processOf, wordNumber, wordAt, freshThread, threadOf, arrivals, change, ended, movedTo, withArrivals, withThreads, withClock, endSleeps, moveSleeps, fallAsleep, writeWord, withState}
 use Rattle.tables.proofs.Changes.{arrivals-with, change-none}
-use Rattle.tables.proofs.Sound.{Sound, running-ok, sound-with}
+use Rattle.tables.proofs.Sound.{Sound, fresh-ok, sound-with}
 use Rattle.tables.proofs.Flags.{process-own}
 use Rattle.rules.proofs.Preserved.{Valid}
 
@@ -36,7 +35,7 @@ onlyOwn own d l = update (λ i x. cond (own i) x d) l
 
 unfoldable pub viewState : ℕ → State → State
 viewState p s =
-    withArrivals (filter (ownThread p) (arrivals s)) (withThreads (onlyOwn (ownThread p) (running NoneYet) (s .threads)) s)
+    withArrivals (filter (ownThread p) (arrivals s)) (withThreads (onlyOwn (ownThread p) freshThread (s .threads)) s)
 
 unfoldable pub view : ℕ → World → World
 view p w = record { state = viewState p (w .state); words = onlyOwn (ownWord p) 0 (w .words) }
@@ -84,7 +83,7 @@ module _ (p : ℕ) where
 
   pub view-own : (s : State) (t : ℕ) → ownThread p t ≡ true → threadOf (viewState p s) t ≡ threadOf s t
   unfolding viewState
-  view-own s t e = getD-own (ownThread p) (running NoneYet) (s .threads) t (running NoneYet) e
+  view-own s t e = getD-own (ownThread p) freshThread (s .threads) t freshThread e
 
   pub view-clock : (s : State) → viewState p s .clock ≡ s .clock
   unfolding viewState
@@ -96,14 +95,14 @@ module _ (p : ℕ) where
 
   -- the changes
   change-view : (f : Thread → Thread) (ts : List ℕ) (rs : List Thread)
-      → onlyOwn (ownThread p) (running NoneYet) (change f ts rs)
-      ≡ change f (filter (ownThread p) ts) (onlyOwn (ownThread p) (running NoneYet) rs)
+      → onlyOwn (ownThread p) freshThread (change f ts rs)
+      ≡ change f (filter (ownThread p) ts) (onlyOwn (ownThread p) freshThread rs)
   unfolding change
   change-view f ts rs = update-comm _ _ _ _ pointwise rs
     where
       pointwise : (t : ℕ) (r : Thread)
-          → cond (ownThread p t) (cond (elem t ts) (f r) r) (running NoneYet)
-          ≡ cond (elem t (filter (ownThread p) ts)) (f (cond (ownThread p t) r (running NoneYet))) (cond (ownThread p t) r (running NoneYet))
+          → cond (ownThread p t) (cond (elem t ts) (f r) r) freshThread
+          ≡ cond (elem t (filter (ownThread p) ts)) (f (cond (ownThread p t) r freshThread)) (cond (ownThread p t) r freshThread)
       pointwise t r = cases (ownThread p t)
           (λ e. rw (e, elem-filter (ownThread p) t ts e))
           (λ e. rw (e, elem-filtered-out (ownThread p) t ts e))
@@ -134,7 +133,7 @@ module _ (p : ℕ) where
   view-sleep : (f : Thread → Thread) (t : ℕ) (s : State)
       → viewState p (fallAsleep f t s)
       ≡ withArrivals (filter (ownThread p) (arrivals s) ++ filter (ownThread p) (t ∷ []))
-      (withThreads (change f (filter (ownThread p) (t ∷ [])) (onlyOwn (ownThread p) (running NoneYet) (s .threads))) s)
+      (withThreads (change f (filter (ownThread p) (t ∷ [])) (onlyOwn (ownThread p) freshThread (s .threads))) s)
   unfolding viewState fallAsleep
   view-sleep f t s =
       cc (change-view f (t ∷ []) (s .threads), filter-append (ownThread p) (arrivals s) (t ∷ []), arrivals-with (arrivals s ++ (t ∷ [])) s)
@@ -149,7 +148,7 @@ module _ (p : ℕ) where
   unfolding viewState
   view-sleep-other f t s e =
       view-sleep f t s
-      ∙ cc (append-nil (filter (ownThread p) (arrivals s)), change-none f (onlyOwn (ownThread p) (running NoneYet) (s .threads)))
+      ∙ cc (append-nil (filter (ownThread p) (arrivals s)), change-none f (onlyOwn (ownThread p) freshThread (s .threads)))
 
   pub view-with-clock : (now : ℕ) (s : State) → viewState p (withClock now s) ≡ withClock now (viewState p s)
   unfolding viewState
@@ -168,7 +167,7 @@ module _ (p : ℕ) where
   unfolding viewState endSleeps
   end-none a s =
       cc (
-        change-none (ended a) (onlyOwn (ownThread p) (running NoneYet) (s .threads)),
+        change-none (ended a) (onlyOwn (ownThread p) freshThread (s .threads)),
         filter-true (filter (ownThread p) (arrivals s)),
         arrivals-with (filter (ownThread p) (arrivals s)) s,
       )
@@ -177,7 +176,7 @@ module _ (p : ℕ) where
   unfolding viewState moveSleeps
   move-none a s =
       cc (
-        change-none (movedTo a) (onlyOwn (ownThread p) (running NoneYet) (s .threads)),
+        change-none (movedTo a) (onlyOwn (ownThread p) freshThread (s .threads)),
         filter-true (filter (ownThread p) (arrivals s)),
         append-nil (filter (ownThread p) (arrivals s)),
         arrivals-with (filter (ownThread p) (arrivals s)) s,
@@ -187,13 +186,13 @@ module _ (p : ℕ) where
   view-sound : (s : State) → Sound s → Sound (viewState p s)
   unfolding viewState
   view-sound s g =
-      sound-with (filter (ownThread p) (arrivals s)) (withThreads (onlyOwn (ownThread p) (running NoneYet) (s .threads)) s) (length-update _ (s .threads) ∙ g .records)
+      sound-with (filter (ownThread p) (arrivals s)) (withThreads (onlyOwn (ownThread p) freshThread (s .threads)) s) (length-update _ (s .threads) ∙ g .records)
       (λ t. cases (ownThread p t)
-      (λ e. rw (getD-own (ownThread p) (running NoneYet) (s .threads) t (running NoneYet) e) (g .kept t))
-      (λ e. rw (getD-other (ownThread p) (running NoneYet) (s .threads) t e) (running-ok (s .clock) NoneYet)))
+      (λ e. rw (getD-own (ownThread p) freshThread (s .threads) t freshThread e) (g .kept t))
+      (λ e. rw (getD-other (ownThread p) freshThread (s .threads) t e) (fresh-ok (s .clock))))
       (λ t. cases (ownThread p t)
-      (λ e. rw (getD-own (ownThread p) (running NoneYet) (s .threads) t (running NoneYet) e) (occurs-filter (ownThread p) t (arrivals s) e ∙ g .exact t))
-      (λ e. rw (getD-other (ownThread p) (running NoneYet) (s .threads) t e) (occurs-filtered-out (ownThread p) t (arrivals s) e)))
+      (λ e. rw (getD-own (ownThread p) freshThread (s .threads) t freshThread e) (occurs-filter (ownThread p) t (arrivals s) e ∙ g .exact t))
+      (λ e. rw (getD-other (ownThread p) freshThread (s .threads) t e) (occurs-filtered-out (ownThread p) t (arrivals s) e)))
 
   pub view-valid : (w : World) → Valid w → Valid (view p w)
   unfolding view

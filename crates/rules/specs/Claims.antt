@@ -18,7 +18,7 @@ use Rattle.rules.specs.declared.event.Event.{Event}
 use Rattle.rules.specs.declared.event.Event.the-variants.{Call as CallEvent, Store, Clock, Interrupt, Query}
 use Rattle.rules.specs.declared.answer.Errno.{Errno}
 use Rattle.tables.specs.Sizes.{processes, threadsPerProcess, threads, wordBytes, bytesPerProcess, memoryWords}
-use Rattle.tables.specs.Tables.{expired, World, threadNumber, processOf, wordNumber, wordAt, running, threadOf, arrivals, queue, tablesOk, movedTo, asleepAt}
+use Rattle.tables.specs.Tables.{expired, World, threadNumber, processOf, wordNumber, wordAt, ended, threadOf, arrivals, queue, tablesOk, movedTo, asleepAt}
 use Rattle.rules.specs.Answers.{Row}
 use Rattle.rules.specs.Commands.{commandOf, bitSet, clockBit, uses}
 use Rattle.rules.specs.WakeOp.{newWord}
@@ -72,7 +72,7 @@ movedBy k c w = cond (uses k .moves) (moved k c (w .state)) []
 -- From s to u, the threads `out` ran with the answer a, the threads `on` went to the target and to the list's end, and every other
 -- record and the order of every other entry are as they were.
 pub record Took (a : LastAnswer) (out on : List ℕ) (target : ℕ) (s u : State) : Type 0 where
-  pub ran : (t : ℕ) → elem t out ≡ true → threadOf u t ≡ running a
+  pub ran : (t : ℕ) → elem t out ≡ true → threadOf u t ≡ ended a (threadOf s t)
   -- mask, deadline and last answer are kept
   pub went : (t : ℕ) → elem t on ≡ true → threadOf u t ≡ movedTo target (threadOf s t)
   pub stayed : (t : ℕ) → elem t out ≡ false → elem t on ≡ false → threadOf u t ≡ threadOf s t
@@ -132,13 +132,13 @@ pub data Fate (e : Event) (w : World) (t : ℕ) : Type 0 where
   -- it called a wait, and sleeps
   sleeps : (c : Call) → e ≡ CallEvent c → t ≡ caller c → Sleeps c w → after e w t ≡ sleepsBy c w (before w t) → Fate e w t
   -- a wake or requeue released it
-  wakes : (c : Call) → e ≡ CallEvent c → elem t (wokenBy (commandOf (c .op)) c w) ≡ true → after e w t ≡ running Woken → Fate e w t
+  wakes : (c : Call) → e ≡ CallEvent c → elem t (wokenBy (commandOf (c .op)) c w) ≡ true → after e w t ≡ ended Woken (before w t) → Fate e w t
   -- a requeue moved it
   moves : (c : Call) → e ≡ CallEvent c → elem t (movedBy (commandOf (c .op)) c w) ≡ true → after e w t ≡ movedTo (c .uaddr2) (before w t) → Fate e w t
   -- the clock reached its deadline
-  timesOut : (now : ℕ) → e ≡ Clock now → expired now (before w t) ≡ true → after e w t ≡ running TimedOut → Fate e w t
+  timesOut : (now : ℕ) → e ≡ Clock now → expired now (before w t) ≡ true → after e w t ≡ ended TimedOut (before w t) → Fate e w t
   -- an interrupt named it
-  isInterrupted : (p i : ℕ) → e ≡ Interrupt p i → t ≡ threadNumber p i → before w t .waiting ≡ true → after e w t ≡ running Interrupted → Fate e w t
+  isInterrupted : (p i : ℕ) → e ≡ Interrupt p i → t ≡ threadNumber p i → before w t .waiting ≡ true → after e w t ≡ ended Interrupted (before w t) → Fate e w t
 
 -- No lost wake: thread t is asleep at address a of its process.
 abbrev pub asleepThere : ℕ → ℕ → World → Bool

@@ -16,11 +16,10 @@ use Rattle.lists.proofs.Update.{length-update, getD-update, getD-update-fixed, 
 use Rattle.tables.specs.declared.State.{State}
 use Rattle.tables.specs.declared.Thread.{Thread}
 use Rattle.tables.specs.declared.LastAnswer.{LastAnswer}
-use Rattle.tables.specs.declared.LastAnswer.the-variants.{NoneYet}
 use Rattle.tables.specs.declared.Change.{Change}
 use Rattle.tables.specs.declared.Change.the-variants.{End, MoveTo}
 use Rattle.tables.specs.Sizes.{threads, noEntry}
-use Rattle.tables.specs.Tables.{running, arrivals, change, ended, withArrivals, withThreads, endSleeps, moveSleeps}
+use Rattle.tables.specs.Tables.{freshThread, arrivals, change, ended, withArrivals, withThreads, endSleeps, moveSleeps}
 use Rattle.tables.specs.Steps.{changedBy}
 
 -- records
@@ -113,7 +112,7 @@ again (MoveTo a) r = refl
 
 pub changed-next : (how : Change) (s₀ s : State) (ts : List ℕ) (i x : ℕ) (u : Thread) → i < length ts → x < length (s₀ .threads)
     → s ≡ withThreads (change (changedBy how) (take i ts) (s₀ .threads)) s₀ → x ≡ getD ts i 0
-    → u ≡ changedBy how (getD (s .threads) x (running NoneYet))
+    → u ≡ changedBy how (getD (s .threads) x freshThread)
     → withThreads (set (s .threads) x u) s ≡ withThreads (change (changedBy how) (take (i + 1) ts) (s₀ .threads)) s₀
 changed-next how s₀ s ts i x u h l done is new =
-    cc (take-next ts i 0 h, change-next (changedBy how) (again how) (take i ts) (s₀ .threads) x (running NoneYet) l)
+    cc (take-next ts i 0 h, change-next (changedBy how) (again how) (take i ts) (s₀ .threads) x freshThread l)

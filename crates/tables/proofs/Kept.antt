@@ -13,11 +13,11 @@ use Rattle.lists.proofs.Occurs.{occurs, elem-one, elem-occurs, absent-occurs, o
 use Rattle.tables.specs.declared.State.{State}
 use Rattle.tables.specs.declared.Thread.{Thread}
 use Rattle.tables.specs.declared.LastAnswer.{LastAnswer}
-use Rattle.tables.specs.declared.LastAnswer.the-variants.{NoneYet, TimedOut}
+use Rattle.tables.specs.declared.LastAnswer.the-variants.{TimedOut}
 use Rattle.tables.specs.Sizes.{threads, bytesPerProcess}
-use Rattle.tables.specs.Tables.{running, threadOf, arrivals, aligned, outside, expired, expiredSleepers, deadlineOk, waitingOk, recordOk, change, ended, movedTo, withArrivals, withThreads, withClock, endSleeps, moveSleeps, fallAsleep}
+use Rattle.tables.specs.Tables.{freshThread, threadOf, arrivals, aligned, outside, expired, expiredSleepers, deadlineOk, waitingOk, recordOk, change, ended, movedTo, withArrivals, withThreads, withClock, endSleeps, moveSleeps, fallAsleep}
 use Rattle.tables.proofs.Changes.{length-change, change-other, change-named}
-use Rattle.tables.proofs.Sound.{Sound, waiting-below, part-waits, running-ok, sound-with}
+use Rattle.tables.proofs.Sound.{Sound, waiting-below, part-waits, fresh-ok, ended-ok, sound-with}
 
 -- the records of ts changed by f, and a new arrival list
 unfoldable altered : (Thread → Thread) → List ℕ → List ℕ → State → State
@@ -25,15 +25,15 @@ altered f ts l s = withArrivals l (withThreads (change f ts (s .threads)) s)
 
 -- The rules are kept where the changed records keep them and the list has the waiting threads.
 module _ (f : Thread → Thread) (ts l : List ℕ) (s : State) (size : length (s .threads) ≡ threads) where
-  altered-record : (P : Thread → Type 0) (t : ℕ) → (elem t ts ≡ true → threads ≤ t → P (running NoneYet))
+  altered-record : (P : Thread → Type 0) (t : ℕ) → (elem t ts ≡ true → threads ≤ t → P freshThread)
       → (elem t ts ≡ true → P (f (threadOf s t))) → (elem t ts ≡ false → P (threadOf s t)) → P (threadOf (altered f ts l s) t)
   unfolding altered
   altered-record P t beyond named other = cases (elem t ts)
       (λ e. cases (ltb t threads)
-      (λ h. rw (change-named f ts (s .threads) t (running NoneYet) e (let k = ltb-true t threads h in omega arith)) (named e))
+      (λ h. rw (change-named f ts (s .threads) t freshThread e (let k = ltb-true t threads h in omega arith)) (named e))
       (λ h. let out = ltb-false t threads h in
-      rw (List·getD-eq-default (change f ts (s .threads)) (running NoneYet) {n = t} (omega (arith, length-change f ts (s .threads)))) (beyond e out)))
-      (λ e. rw (change-other f ts (s .threads) t (running NoneYet) e) (other e))
+      rw (List·getD-eq-default (change f ts (s .threads)) freshThread {n = t} (omega (arith, length-change f ts (s .threads)))) (beyond e out)))
+      (λ e. rw (change-other f ts (s .threads) t freshThread e) (other e))
 
   sound-altered : ((t : ℕ) → elem t ts ≡ true → recordOk (s .clock) (f (threadOf s t)) ≡ true)
       → ((t : ℕ) → elem t ts ≡ false → recordOk (s .clock) (threadOf s t) ≡ true)
@@ -42,7 +42,7 @@ module _ (f : Thread → Thread) (ts l : List ℕ) (s : State) (size : length (s
   unfolding altered
   sound-altered named other exact =
       sound-with l (withThreads (change f ts (s .threads)) s) (length-change f ts (s .threads) ∙ size)
-      (λ t. altered-record (λ r. recordOk (s .clock) r ≡ true) t (λ e h. running-ok (s .clock) NoneYet) (named t) (other t)) exact
+      (λ t. altered-record (λ r. recordOk (s .clock) r ≡ true) t (λ e h. fresh-ok (s .clock)) (named t) (other t)) exact
 
 -- sleeps that end
 sound-end : (a : LastAnswer) (ts : List ℕ) (s : State) → length (s .threads) ≡ threads
@@ -51,7 +51,7 @@ sound-end : (a : LastAnswer) (ts : List ℕ) (s : State) → length (s .threads)
     → Sound (endSleeps a ts s)
 unfolding endSleeps altered
 sound-end a ts s size other exact =
-    sound-altered (ended a) ts (without ts (arrivals s)) s size (λ t e. running-ok (s .clock) a) other
+    sound-altered (ended a) ts (without ts (arrivals s)) s size (λ t e. ended-ok (s .clock) a (threadOf s t)) other
     (λ t. altered-record (ended a) ts (without ts (arrivals s)) s size (λ r. occurs t (without ts (arrivals s)) ≡ bit (r .waiting)) t
     (λ e h. occurs-taken-out t ts (arrivals s) e)
     (λ e. occurs-taken-out t ts (arrivals s) e)

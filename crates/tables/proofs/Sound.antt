@@ -16,13 +16,9 @@ use Rattle.lists.proofs.Count.{everyBelow-intro, everyBelow-at, length-le}
 use Rattle.tables.specs.declared.State.{State}
 use Rattle.tables.specs.declared.Thread.{Thread}
 use Rattle.tables.specs.declared.LastAnswer.{LastAnswer}
-use Rattle.tables.specs.declared.LastAnswer.the-variants.{NoneYet}
 use Rattle.tables.specs.Sizes.{threads, bytesPerProcess, noEntry}
-use Rattle.tables.specs.Tables.{running, threadOf, arrivals, expired, aligned, recordOk, sizesOk, countOk, numbersOk, exactOk, tailOk, recordsOk, tablesOk, fresh, withArrivals}
+use Rattle.tables.specs.Tables.{freshThread, ended, threadOf, arrivals, expired, aligned, recordOk, sizesOk, countOk, numbersOk, exactOk, tailOk, recordsOk, tablesOk, fresh, withArrivals}
 use Rattle.tables.proofs.Changes.{arrivals-with}
-
-abbrev noThread : Thread
-noThread = running NoneYet
 
 -- The table rules as facts. That the entries are all different and exactly the waiting threads is one equation for each number.
 pub record Sound (s : State) : Type 0 where
@@ -33,8 +29,8 @@ pub record Sound (s : State) : Type 0 where
   pub exact : (t : ℕ) → occurs t (arrivals s) ≡ bit (threadOf s t .waiting)
 
 -- past the records there is none
-beyond : (s : State) → length (s .threads) ≡ threads → (t : ℕ) → threads ≤ t → threadOf s t ≡ noThread
-beyond s n t h = List·getD-eq-default (s .threads) noThread (omega arith)
+beyond : (s : State) → length (s .threads) ≡ threads → (t : ℕ) → threads ≤ t → threadOf s t ≡ freshThread
+beyond s n t h = List·getD-eq-default (s .threads) freshThread (omega arith)
 
 -- From the facts.
 
@@ -118,7 +114,7 @@ module _ (s : State) (g : Sound s) where
       (occurs-distinct (arrivals s) once))
       (everyBelow-intro threads (λ t. Bool·beq (elem t (arrivals s)) (threadOf s t .waiting)) (λ t h. eq-beq _ _ (listed-waiting t))))
       (ap (all (λ e. eqb e noEntry)) tail-is ∙ replicate-all noEntry (threads - length (arrivals s))))
-      (all-getD (recordOk (s .clock)) noThread (s .threads) (g .kept))
+      (all-getD (recordOk (s .clock)) freshThread (s .threads) (g .kept))
 
 -- To the facts.
 
@@ -158,9 +154,13 @@ none-out l h t le =
     absent-occurs t l
     (cases (elem t l) (λ e. absurd (let k = ltb-true t threads (elem-all (λ x. ltb x threads) l h t e) in omega arith)) (λ e. e))
 
-pub running-ok : (now : ℕ) (a : LastAnswer) → recordOk now (running a) ≡ true
+pub fresh-ok : (now : ℕ) → recordOk now freshThread ≡ true
 unfolding recordOk
-running-ok now a = refl
+fresh-ok now = refl
+
+pub ended-ok : (now : ℕ) (a : LastAnswer) (r : Thread) → recordOk now (ended a r) ≡ true
+unfolding recordOk
+ended-ok now a r = refl
 
 module _ (s : State) (r : Rules s) where
   arrived : length (arrivals s) ≡ s .count
@@ -186,7 +186,7 @@ module _ (s : State) (r : Rules s) where
         records = r .records;
         stored = sym (take-append-drop (s .count) (s .list)) ∙ ap (arrivals s ++_) tail-stored;
         counted = sym arrived;
-        kept = getD-all (recordOk (s .clock)) noThread (s .threads) (running-ok (s .clock) NoneYet) (r .kept);
+        kept = getD-all (recordOk (s .clock)) freshThread (s .threads) (fresh-ok (s .clock)) (r .kept);
         exact = listed-exactly;
       }
 
@@ -197,11 +197,11 @@ pub fresh-sound : Sound fresh
 unfolding fresh
 fresh-sound =
     record {
-      records = length-replicate threads noThread;
+      records = length-replicate threads freshThread;
       stored = refl;
       counted = refl;
-      kept = λ t. rw (getD-replicated threads t noThread) (running-ok 0 NoneYet);
-      exact = λ t. rw (getD-replicated threads t noThread);
+      kept = λ t. rw (getD-replicated threads t freshThread) (fresh-ok 0);
+      exact = λ t. rw (getD-replicated threads t freshThread);
     }
 
 -- the rules are kept where records that keep them go with the list of those that wait

@@ -16,11 +16,10 @@ use Rattle.lists.proofs.LeftOver.{without-taken, length-parts}
 use Rattle.tables.specs.declared.State.{State}
 use Rattle.tables.specs.declared.Thread.{Thread}
 use Rattle.tables.specs.declared.LastAnswer.{LastAnswer}
-use Rattle.tables.specs.declared.LastAnswer.the-variants.{NoneYet}
 use Rattle.tables.specs.declared.Change.the-variants.{End, MoveTo}
 use Rattle.arrivals.specs.declared.Parts.{Parts}
 use Rattle.tables.specs.Sizes.{threads, noEntry}
-use Rattle.tables.specs.Tables.{running, threadOf, arrivals, change, withThreads, ended, endSleeps, moveSleeps, fallAsleep, asleepAt}
+use Rattle.tables.specs.Tables.{freshThread, threadOf, arrivals, change, withThreads, ended, endSleeps, moveSleeps, fallAsleep, asleepAt}
 use Rattle.tables.specs.Steps.{changedBy, Numbers, Flags, flagged, splitOf, endFirst, moveFirst}
 use Rattle.tables.proofs.Changes.{change-none, change-next}
 use Rattle.tables.proofs.Sound.{Sound, listed-below, all-low, once, arrivals-fit}
@@ -93,7 +92,7 @@ unfolding fallAsleep
 falls-asleep s g t a m timed due new low room is =
     let f = asleepAt a m timed due in
     let records : change f (t ∷ []) (s .threads) ≡ set (s .threads) t new =
-    change-next f (λ r. refl) [] (s .threads) t (running NoneYet) (omega (arith, g .records)) ∙ rw (change-none f (s .threads)) (ap (set (s .threads) t) (sym is)) in
+    change-next f (λ r. refl) [] (s .threads) t freshThread (omega (arith, g .records)) ∙ rw (change-none f (s .threads)) (ap (set (s .threads) t) (sym is)) in
     let list : set (s .list) (s .count) t ≡ padTo threads noEntry (arrivals s ++ (t ∷ [])) =
     ap (λ l. set l (s .count) t) (g .stored) ∙ ap (λ n. set (padTo threads noEntry (arrivals s)) n t) (g .counted)
     ∙ padTo-snoc threads noEntry (arrivals s) t (omega (arith, g .counted)) in

@@ -35,12 +35,12 @@ wordNumber p a = wordsPerProcess * p + a / wordBytes
 abbrev pub wordAt : World → ℕ → ℕ → ℕ
 wordAt w p a = getD (w .words) (wordNumber p a) 0
 
--- "A running thread has zeros for address, mask and deadline, and no deadline."
-abbrev pub running : LastAnswer → Thread
-running a = record { waiting = false; uaddr = 0; bitset = 0; timed = false; deadline = 0; last = a }
+-- A thread's record at the start: "all running, last answers 1".
+abbrev pub freshThread : Thread
+freshThread = record { waiting = false; uaddr = 0; bitset = 0; timed = false; deadline = 0; last = NoneYet }
 
 abbrev pub threadOf : State → ℕ → Thread
-threadOf s t = getD (s .threads) t (running NoneYet)
+threadOf s t = getD (s .threads) t freshThread
 
 -- the arrival list: the first count entries
 abbrev pub arrivals : State → List ℕ
@@ -113,7 +113,7 @@ tablesOk s =
 
 -- "Fresh: clock 0, all running, last answers 1, list empty."
 unfoldable pub fresh : State
-fresh = record { clock = 0; threads = replicate threads (running NoneYet); list = replicate threads noEntry; count = 0 }
+fresh = record { clock = 0; threads = replicate threads freshThread; list = replicate threads noEntry; count = 0 }
 
 -- Whom an event may end.
 
@@ -141,12 +141,22 @@ withArrivals l s = record { clock = s .clock; threads = s .threads; list = padTo
 abbrev pub withClock : ℕ → State → State
 withClock now s = record { clock = now; threads = s .threads; list = s .list; count = s .count }
 
+-- A record with another sleep, and one with another last answer. What they do not name is kept: each change of a record is made of
+-- these two, so that a field that is added later is kept by all of them.
+abbrev pub withSleep : Bool → ℕ → ℕ → Bool → ℕ → Thread → Thread
+withSleep waiting a m timed due r = record { waiting = waiting; uaddr = a; bitset = m; timed = timed; deadline = due; last = r .last }
+
+abbrev pub withLast : LastAnswer → Thread → Thread
+withLast a r =
+    record { waiting = r .waiting; uaddr = r .uaddr; bitset = r .bitset; timed = r .timed; deadline = r .deadline; last = a }
+
 -- the records of the threads ts changed by f, the others as they were
 unfoldable pub change : (Thread → Thread) → List ℕ → List Thread → List Thread
 change f ts rs = update (λ t r. cond (elem t ts) (f r) r) rs
 
+-- "A running thread has zeros for address, mask and deadline, and no deadline."
 abbrev pub ended : LastAnswer → Thread → Thread
-ended a r = running a
+ended a r = withLast a (withSleep false 0 0 false 0 r)
 
 -- "A released thread leaves the list, runs, and has last answer 0. A sleeper ended by the clock or an interrupt leaves
 -- the list and runs likewise, with its own last answer. Whatever ends or moves, the other entries keep their order."
@@ -155,15 +165,19 @@ endSleeps a ts s = withArrivals (without ts (arrivals s)) (withThreads (change (
 
 -- "with mask and deadline kept"
 abbrev pub movedTo : ℕ → Thread → Thread
-movedTo a r = record { waiting = r .waiting; uaddr = a; bitset = r .bitset; timed = r .timed; deadline = r .deadline; last = r .last }
+movedTo a r = withSleep (r .waiting) a (r .bitset) (r .timed) (r .deadline) r
 
 -- "move to uaddr2, joining the end of the arrival list in their order"
 unfoldable pub moveSleeps : ℕ → List ℕ → State → State
 moveSleeps a ts s = withArrivals (without ts (arrivals s) ++ ts) (withThreads (change (movedTo a) ts (s .threads)) s)
 
+-- "no deadline with 0 stored"
+abbrev pub storedDeadline : Bool → ℕ → ℕ
+storedDeadline timed due = cond timed due 0
+
 -- "the answer of its last ended sleep" stays while the thread sleeps
 abbrev pub asleepAt : ℕ → ℕ → Bool → ℕ → Thread → Thread
-asleepAt a m timed due r = record { waiting = true; uaddr = a; bitset = m; timed = timed; deadline = cond timed due 0; last = r .last }
+asleepAt a m timed due r = withSleep true a m timed (storedDeadline timed due) r
 
 -- "The caller joins the end of the arrival list."
 unfoldable pub fallAsleep : (Thread → Thread) → ℕ → State → State

@@ -5,7 +5,7 @@ ghost use Prim.Native.Nat.{_+_, _<_};
 ghost use lib.ListN.{take};
 ghost use lib.Dec.{eqb};
 ghost use Rattle.tables.specs.Sizes.{processes, threads};
-ghost use Rattle.tables.specs.Tables.{running, movedTo, asleepAt, expired, sharesBit, sleepsAt, threadOf, fresh, change, withThreads, fallAsleep, tablesOk};
+ghost use Rattle.tables.specs.Tables.{freshThread, storedDeadline, withSleep, withLast, ended, movedTo, asleepAt, expired, sharesBit, sleepsAt, threadOf, fresh, change, withThreads, fallAsleep, tablesOk};
 ghost use Rattle.tables.specs.Steps.{changedBy, Numbers, Flags, flagged, endFirst, moveFirst};
 
 pub mod check;
@@ -56,9 +56,16 @@ pub enum Change {
     MoveTo(u32),
 }
 
+// "no deadline with 0 stored"
+pub fn stored_deadline(timed: bool, deadline: u64) -> u64
+    ensures { λ r. ⌜ r ≡ storedDeadline timed deadline ⌝ }
+{
+    if timed { deadline } else { 0 }
+}
+
 impl Thread {
-    pub fn running(last: LastAnswer) -> Self
-        ensures { λ r. ⌜ r ≡ running last ⌝ }
+    pub fn fresh() -> Self
+        ensures { λ r. ⌜ r ≡ freshThread ⌝ }
     {
         Self {
             waiting: false,
@@ -66,8 +73,48 @@ impl Thread {
             bitset: 0,
             timed: false,
             deadline: 0,
+            last: LastAnswer::NoneYet,
+        }
+    }
+
+    // Another sleep; whatever else the record holds stays.
+    fn with_sleep(
+        mut self,
+        waiting: bool,
+        uaddr: u32,
+        bitset: u32,
+        timed: bool,
+        deadline: u64,
+    ) -> Self
+        ensures { λ r. ⌜ r ≡ withSleep waiting uaddr bitset timed deadline self ⌝ }
+    {
+        self.waiting = waiting;
+        self.uaddr = uaddr;
+        self.bitset = bitset;
+        self.timed = timed;
+        self.deadline = deadline;
+        self
+    }
+
+    // Another last answer: a field that holds an enum is not stored to, so the record is written anew.
+    fn with_last(self, last: LastAnswer) -> Self
+        ensures { λ r. ⌜ r ≡ withLast last self ⌝ }
+    {
+        Self {
+            waiting: self.waiting,
+            uaddr: self.uaddr,
+            bitset: self.bitset,
+            timed: self.timed,
+            deadline: self.deadline,
             last: last,
         }
+    }
+
+    // The sleep is over, with this answer.
+    fn ended(self, last: LastAnswer) -> Self
+        ensures { λ r. ⌜ r ≡ ended last self ⌝ }
+    {
+        self.with_sleep(false, 0, 0, false, 0).with_last(last)
     }
 
     fn moved_to(mut self, uaddr: u32) -> Self
@@ -81,7 +128,7 @@ impl Thread {
         ensures { λ r. ⌜ r ≡ changedBy how self ⌝ }
     {
         match how {
-            Change::End(last) => Thread::running(last),
+            Change::End(last) => self.ended(last),
             Change::MoveTo(uaddr) => self.moved_to(uaddr),
         }
     }
@@ -90,15 +137,8 @@ impl Thread {
     pub fn asleep_at(self, uaddr: u32, bitset: u32, timed: bool, deadline: u64) -> Self
         ensures { λ r. ⌜ r ≡ asleepAt uaddr bitset timed deadline self ⌝ }
     {
-        let last = self.last;
-        Self {
-            waiting: true,
-            uaddr: uaddr,
-            bitset: bitset,
-            timed: timed,
-            deadline: if timed { deadline } else { 0 },
-            last: last,
-        }
+        let due = stored_deadline(timed, deadline);
+        self.with_sleep(true, uaddr, bitset, timed, due)
     }
 
     pub fn has_expired(self, now: u64) -> bool
@@ -133,7 +173,7 @@ impl State {
     pub fn fresh() -> Self
         ensures { λ r. ⌜ r ≡ fresh ⌝ }
     {
-        let t = Thread::running(LastAnswer::NoneYet);
+        let t = Thread::fresh();
         Self {
             clock: 0,
             threads: [t; THREADS],

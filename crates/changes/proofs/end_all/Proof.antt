@@ -1,13 +1,10 @@
 use denote.Ref.{now}
-use mathlib.Core.Path.{_≡_, sym, ap, _∙_}
+use mathlib.Core.Path.{_≡_, sym, _∙_}
 use Prim.Native.Nat.{_-_}
 use native.Mathlib.Omega.{arith}
 use borrow.Author.Needs.{needs}
-use lib.ListN.{length, getD, set}
-use Rattle.tables.specs.declared.Thread.{Thread}
+use lib.ListN.{length, getD}
 use Rattle.tables.specs.Sizes.{threads}
-use Rattle.tables.specs.Tables.{withThreads}
-use Rattle.layout.specs.Layout.{tablesBytes}
 use Rattle.tables.specs.declared.Change.the-variants.{End}
 use Rattle.changes.proofs.Changing.{Changed, changed-start, changed-more, changed-all}
 use Rattle.changes.proofs.end_all.Statement.{statement}
@@ -31,11 +28,8 @@ array-read-index-of c = omega (arith, c .before .before .before .pre .1 .few)
 index-of-requires : tie.Need-index-of-requires Inv-loop μ-loop
 index-of-requires c κs = search needs
 
-running-requires : tie.Need-running-requires Inv-loop μ-loop
-running-requires c κs = search needs
-
-put-thread-requires : tie.Need-put-thread-requires Inv-loop μ-loop
-put-thread-requires c κs = (c .before .before .before .before .loop .inv .long, omega (arith, c .before .before .index-of .ensures))
+end-sleep-requires : tie.Need-end-sleep-requires Inv-loop μ-loop
+end-sleep-requires c κs = (c .before .before .before .loop .inv .long, omega (arith, c .before .index-of .ensures))
 
 add-i : tie.Need-add-i Inv-loop μ-loop
 add-i c = omega arith
@@ -46,16 +40,15 @@ loop-less c = omega arith
 loop-again : tie.Need-loop-again Inv-loop μ-loop
 loop-again c =
     let p = c .before .before in
-    let r = p .before .before in
-    let x = r .before in
+    let x = p .before .before in
     let k = x .before .before in
     let g = k .before .before in
     let i = k .loop .i in
     let e = g .pre .1 .below i (x .before .loop-test .taken) in
     let here : x .index-of .result ≡ getD (g .args .t2) i 0 = x .index-of .ensures ∙ omega arith in
-    changed-more (End (g .args .last)) (g .args .t2) (g .args .n) (now (g .args .b)) (k .loop .b) (p .put-thread .last .0) i (x .index-of .result) (k .loop .inv)
-    (omega arith) (omega (arith, size g, g .pre .1 .few)) here (omega (arith, here, e)) (p .put-thread .kept .0 ∙ k .loop .inv .long)
-    (λ s w is. p .put-thread .ensures s w is ∙ ap (λ (t : Thread). tablesBytes (withThreads (set (s .threads) (x .index-of .result) t) s)) (r .running .ensures))
+    changed-more (End (g .args .last)) (g .args .t2) (g .args .n) (now (g .args .b)) (k .loop .b) (p .end-sleep .last .0) i (x .index-of .result) (k .loop .inv)
+    (omega arith) (omega (arith, size g, g .pre .1 .few)) here (omega (arith, here, e)) (p .end-sleep .kept .0 ∙ k .loop .inv .long)
+    (p .end-sleep .ensures)
 
 same-length : tie.Need-same-length Inv-loop μ-loop
 same-length c = c .before .loop .inv .long ∙ sym (c .before .before .before .pre .0)
@@ -74,8 +67,7 @@ end-all-spec =
     loop-holds
     array-read-index-of
     index-of-requires
-    running-requires
-    put-thread-requires
+    end-sleep-requires
     add-i
     loop-less
     loop-again

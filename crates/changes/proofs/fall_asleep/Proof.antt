@@ -1,16 +1,18 @@
 use denote.Ref.{now}
-use mathlib.Core.Path.{_≡_, sym, ap, _∙_}
+use mathlib.Core.Path.{_≡_, ap, _∙_}
+use mathlib.Core.Bool.{true}
 use Prim.Native.Nat.{_+_, _<_}
 use native.Mathlib.Omega.{arith}
 use lib.ListN.{length, set, length-set}
 use Rattle.tables.specs.Sizes.{threads}
-use Rattle.tables.specs.Tables.{threadOf, asleepAt, withThreads}
+use Rattle.tables.specs.Tables.{threadOf, withSleep, asleepAt}
 use Rattle.tables.proofs.Sound.{tables-sound}
 use Rattle.tables.proofs.Stored.{falls-asleep}
 use Rattle.layout.specs.Layout.{tablesSize, stateAt, tablesBytes}
-use Rattle.layout.proofs.Reading.{thread-read, count-read}
+use Rattle.layout.proofs.Reading.{count-read}
+use Rattle.changes.specs.Change.{atThread}
 use Rattle.changes.proofs.Writing.{entry-put}
-use Rattle.changes.proofs.Changing.{whole-threads}
+use Rattle.changes.proofs.Changing.{whole-at}
 use Rattle.changes.proofs.Standing.{whole}
 use borrow.Author.Needs.{needs}
 use Rattle.changes.proofs.fall_asleep.Statement.{statement}
@@ -19,23 +21,20 @@ use Rattle.changes.proofs.fall_asleep.Tie as tie
 -- the entry that is written is the first that is free
 low : (c : tie.After-u64-at) → c .u64-at .result < threads
 low c =
-    let g = c .before .before .before .before .before .before in
+    let g = c .before .before .before .before in
     omega (arith, c .u64-at .ensures .0, count-read (now (g .args .b)), g .pre .1 .1)
 
-size : (c : tie.After-put-thread) → length (c .put-thread .last .0) ≡ tablesSize
-size c = c .put-thread .kept .0 ∙ c .before .before .before .before .before .before .before .before .pre .0 .size
+size : (c : tie.After-put-sleep) → length (c .put-sleep .last .0) ≡ tablesSize
+size c = c .put-sleep .kept .0 ∙ c .before .before .before .before .before .before .pre .0 .size
 
-thread-at-requires : tie.Need-thread-at-requires
-thread-at-requires c κs = search needs
-
-asleep-at-requires : tie.Need-asleep-at-requires
-asleep-at-requires c κs = search needs
+stored-deadline-requires : tie.Need-stored-deadline-requires
+stored-deadline-requires c κs = search needs
 
 u64-at-requires : tie.Need-u64-at-requires
 u64-at-requires c κs = search needs
 
-put-thread-requires : tie.Need-put-thread-requires
-put-thread-requires c κs = search needs
+put-sleep-requires : tie.Need-put-sleep-requires
+put-sleep-requires c κs = search needs
 
 cast-b : tie.Need-cast-b
 cast-b c = search needs
@@ -55,8 +54,8 @@ put-u64-requires c κs = simp length-set (omega (arith, size (c .before .before 
 same-length : tie.Need-same-length
 same-length c =
     let p = c .before .before .before .before .before .before in
-    let e : length (c .before .before .put-u64 .last .0) ≡ length (p .put-thread .last .0) = c .before .before .put-u64 .kept .0 ∙ simp length-set in
-    e ∙ p .put-thread .kept .0
+    let e : length (c .before .before .put-u64 .last .0) ≡ length (p .put-sleep .last .0) = c .before .before .put-u64 .kept .0 ∙ simp length-set in
+    e ∙ p .put-sleep .kept .0
 
 returns : tie.Need-returns
 returns c =
@@ -64,31 +63,29 @@ returns c =
     let p = u .before .before .before .before in
     let n = p .before .before in
     let a = n .before .before in
-    let o = a .before in
-    let g = o .before .before .before in
+    let g = a .before .before in
     let b = now (g .args .b) in
     let s = stateAt b in
     let t = g .args .t in
     let k = n .u64-at .result in
-    let new = a .asleep-at .result in
     let f = asleepAt (g .args .uaddr) (g .args .bitset) (g .args .timed) (g .args .deadline) in
     let w = whole s (g .pre .0 .sound) in
-    let v = whole-threads s (set (s .threads) t new) (length-set (s .threads) t new ∙ w .records) w in
+    let new = withSleep true (g .args .uaddr) (g .args .bitset) (g .args .timed) (a .stored-deadline .result) in
     let count : k ≡ s .count = n .u64-at .ensures .0 ∙ count-read b in
-    let is : new ≡ f (threadOf s t) = a .asleep-at .ensures ∙ ap f (o .thread-at .ensures ∙ sym (thread-read b t (g .pre .1 .0))) in
+    let is : new (threadOf s t) ≡ f (threadOf s t) =
+    ap (λ due. withSleep true (g .args .uaddr) (g .args .bitset) (g .args .timed) due (threadOf s t)) (a .stored-deadline .ensures) in
     u .put-u64 .ensures
-    ∙ entry-put (withThreads (set (s .threads) t new) s) v k t (k + 1) (low n) (p .put-thread .last .0) (p .put-thread .ensures s w (g .pre .0 .bytes))
-    ∙ ap (λ m. tablesBytes (record { clock = s .clock; threads = set (s .threads) t new; list = set (s .list) m t; count = m + 1 })) count
-    ∙ ap tablesBytes (falls-asleep s (tables-sound s (g .pre .0 .sound)) t (g .args .uaddr) (g .args .bitset) (g .args .timed) (g .args .deadline) new (g .pre .1 .0) (g .pre .1 .1) is)
+    ∙ entry-put (atThread t new s) (whole-at t new s w) k t (k + 1) (low n) (p .put-sleep .last .0) (p .put-sleep .ensures s w (g .pre .0 .bytes))
+    ∙ ap (λ m. tablesBytes (record { clock = s .clock; threads = set (s .threads) t (new (threadOf s t)); list = set (s .list) m t; count = m + 1 })) count
+    ∙ ap tablesBytes (falls-asleep s (tables-sound s (g .pre .0 .sound)) t (g .args .uaddr) (g .args .bitset) (g .args .timed) (g .args .deadline) (new (threadOf s t)) (g .pre .1 .0) (g .pre .1 .1) is)
 
 pub fall-asleep-spec : {M : Type 1} → statement M
 fall-asleep-spec =
     tie.close
     (tie.spec
-    thread-at-requires
-    asleep-at-requires
+    stored-deadline-requires
     u64-at-requires
-    put-thread-requires
+    put-sleep-requires
     cast-b
     add-b
     slice-write-b

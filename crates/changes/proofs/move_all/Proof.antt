@@ -56,7 +56,7 @@ loop-again c =
     let low : x .index-of .result < threads = omega (arith, here, e) in
     changed-more (MoveTo (g .args .uaddr)) (g .args .t2) (g .args .n) (now (g .args .b)) (k .loop .b) (p .put-u32 .last .0) i (x .index-of .result) (k .loop .inv)
     (omega arith) (omega (arith, size g, g .pre .1 .few)) here low (p .put-u32 .kept .0 ∙ k .loop .inv .long)
-    (λ s w is. p .put-u32 .ensures ∙ address-put s w (x .index-of .result) (g .args .uaddr) low (k .loop .b) is)
+    (λ s w is. p .put-u32 .ensures ∙ address-put s w (x .index-of .result) low (g .args .uaddr) (k .loop .b) is)
 
 same-length : tie.Need-same-length Inv-loop μ-loop
 same-length c = c .before .loop .inv .long ∙ sym (c .before .before .before .pre .0)

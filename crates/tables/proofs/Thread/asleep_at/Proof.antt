@@ -1,11 +1,15 @@
+use borrow.Author.Needs.{needs}
 use Rattle.tables.proofs.Thread.asleep_at.Statement.{statement}
 use Rattle.tables.proofs.Thread.asleep_at.Tie as tie
 
-returns : tie.Need-returns
-returns c = rw (c .if1 .taken)
+stored-deadline-requires : tie.Need-stored-deadline-requires
+stored-deadline-requires c κs = search needs
 
-returns-2 : tie.Need-returns-2
-returns-2 c = rw (c .if1 .left)
+with-sleep-requires : tie.Need-with-sleep-requires
+with-sleep-requires c κs = search needs
+
+returns : tie.Need-returns
+returns c = rw (c .with-sleep .ensures, c .before .stored-deadline .ensures)
 
 pub asleep-at-spec : {M : Type 1} → statement M
-asleep-at-spec = tie.close (tie.spec returns returns-2)
+asleep-at-spec = tie.close (tie.spec stored-deadline-requires with-sleep-requires returns)

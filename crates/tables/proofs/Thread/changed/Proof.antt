@@ -7,8 +7,8 @@ use Rattle.tables.proofs.Thread.changed.Tie as tie
 enum-known-how : tie.Need-enum-known-how
 enum-known-how c = search needs
 
-running-requires : tie.Need-running-requires
-running-requires c κs = search needs
+ended-requires : tie.Need-ended-requires
+ended-requires c κs = search needs
 
 enum-known-how-2 : tie.Need-enum-known-how-2
 enum-known-how-2 c = search needs
@@ -17,7 +17,7 @@ moved-to-requires : tie.Need-moved-to-requires
 moved-to-requires c κs = search needs
 
 returns : tie.Need-returns
-returns c = c .running .ensures ∙ sym (ap (λ h. changedBy h (c .before .before .before .before .args .self)) (c .before .before .how .given .1))
+returns c = c .ended .ensures ∙ sym (ap (λ h. changedBy h (c .before .before .before .before .args .self)) (c .before .before .how .given .1))
 
 returns-2 : tie.Need-returns-2
 returns-2 c = c .moved-to .ensures ∙ sym (ap (λ h. changedBy h (c .before .before .before .before .args .self)) (c .before .before .how2 .given .1))
@@ -25,4 +25,4 @@ returns-2 c = c .moved-to .ensures ∙ sym (ap (λ h. changedBy h (c .before .be
 pub changed-spec : {M : Type 1} → statement M
 changed-spec =
     tie.close
-    (tie.spec enum-known-how running-requires enum-known-how-2 moved-to-requires returns returns-2)
+    (tie.spec enum-known-how ended-requires enum-known-how-2 moved-to-requires returns returns-2)

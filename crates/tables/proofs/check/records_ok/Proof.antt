@@ -9,9 +9,8 @@ use Rattle.lists.specs.Lists.{all, everyBelow}
 use Rattle.lists.proofs.Count.{Tested, tested-start, tested-next, tested-all, everyBelow-and}
 use Rattle.lists.proofs.Tabulate.{all-below}
 use Rattle.tables.specs.declared.State.{State}
-use Rattle.tables.specs.declared.LastAnswer.the-variants.{NoneYet}
 use Rattle.tables.specs.Sizes.{threads}
-use Rattle.tables.specs.Tables.{running, threadOf, recordOk}
+use Rattle.tables.specs.Tables.{freshThread, threadOf, recordOk}
 use Rattle.tables.specs.Steps.{flagged}
 use Rattle.tables.proofs.check.records_ok.Statement.{statement}
 use Rattle.tables.proofs.check.records_ok.Tie as tie
@@ -65,7 +64,7 @@ returns c =
     let g = c .before .before in
     let s = g .args .t1 in
     let records : ℕ → Bool = λ t. recordOk (s .clock) (threadOf s t) in
-    let whole : all (recordOk (s .clock)) (s .threads) ≡ everyBelow threads records = all-below (recordOk (s .clock)) (s .threads) (running NoneYet) ∙ rw (long g) in
+    let whole : all (recordOk (s .clock)) (s .threads) ≡ everyBelow threads records = all-below (recordOk (s .clock)) (s .threads) freshThread ∙ rw (long g) in
     tested-all threads (good s (g .args .t2)) (c .before .loop .ok) (c .before .loop .i) (c .before .loop .inv) (omega arith)
     ∙ everyBelow-and threads records (agrees s (g .args .t2)) ∙ and-comm (everyBelow threads records) (everyBelow threads (agrees s (g .args .t2))) ∙ rw whole
 
