@@ -1,13 +1,11 @@
--- Where a thread's record and a word stand. The code computes a place first and refuses what does not exist afterwards.
-use mathlib.Core.Path.{_≡_}
-use Prim.Native.Nat.{ℕ, _<_}
-use Rattle.tables.specs.Sizes.{processes, threadsPerProcess, threads, bytesPerProcess, memoryWords}
+-- Where the code looks for a thread's record and for a word. It computes a place first and refuses what does not exist afterwards, so
+-- numbers past the last stand for others: each is taken modulo how many there are.
+use Prim.Native.Nat.{ℕ, _%_}
+use Rattle.tables.specs.Sizes.{processes, threadsPerProcess, bytesPerProcess}
 use Rattle.tables.specs.Tables.{threadNumber, wordNumber}
 
-pub record ThreadAt (p i r : ℕ) : Type 0 where
-  pub inside : r < threads
-  pub exact : p < processes → i < threadsPerProcess → r ≡ threadNumber p i
+abbrev pub threadPlace : ℕ → ℕ → ℕ
+threadPlace p i = threadNumber (p % processes) (i % threadsPerProcess)
 
-pub record WordAt (p a r : ℕ) : Type 0 where
-  pub inside : r < memoryWords
-  pub exact : p < processes → a < bytesPerProcess → r ≡ wordNumber p a
+abbrev pub wordPlace : ℕ → ℕ → ℕ
+wordPlace p a = wordNumber (p % processes) (a % bytesPerProcess)

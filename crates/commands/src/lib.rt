@@ -5,7 +5,7 @@ ghost use Prim.Native.Nat.{_+_, _-_, min};
 ghost use Rattle.tables.specs.Sizes.{timeLimit, matchAny};
 ghost use Rattle.rules.specs.Commands.{numbered, commandOf, notImplemented, uses};
 ghost use Rattle.rules.specs.Calls.{secondCap, timeoutGiven};
-ghost use Rattle.commands.specs.Places.{ThreadAt, WordAt};
+ghost use Rattle.commands.specs.Places.{threadPlace, wordPlace};
 use rules::event::Call;
 use rules::event::Command;
 use rules::event::Uses;
@@ -132,17 +132,17 @@ pub fn mask_of(c: Call, given: bool) -> u32
     if given { c.val3 } else { MATCH_ANY }
 }
 
-// The record of a thread; of one that does not exist, some record.
+// The record of a thread; of one that does not exist, that of another.
 pub fn thread_index(process: u8, index: u8) -> usize
-    ensures { λ r. ⌜ ThreadAt process index r ⌝ }
+    ensures { λ r. ⌜ r ≡ threadPlace process index ⌝ }
 {
     (process as usize) % PROCESSES * State::THREADS_PER_PROCESS
         + (index as usize) % State::THREADS_PER_PROCESS
 }
 
-// The place of a word; of an address that has none, some place.
+// The place of a word; of an address that has none, that of another.
 pub fn word_index(process: u8, address: u32) -> usize
-    ensures { λ r. ⌜ WordAt process address r ⌝ }
+    ensures { λ r. ⌜ r ≡ wordPlace process address ⌝ }
 {
     (process as usize) % PROCESSES * State::WORDS_PER_PROCESS
         + ((address / WORD_BYTES) as usize) % State::WORDS_PER_PROCESS

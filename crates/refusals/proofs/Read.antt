@@ -14,7 +14,8 @@ use Rattle.rules.specs.Answers.{Row, _when_, first}
 use Rattle.rules.specs.Commands.{commandOf}
 use Rattle.rules.specs.Calls.{wrongMemory, brokenTables, callRows, callRefusals, differs}
 use Rattle.rules.specs.Events.{refusals}
-use Rattle.commands.specs.Places.{ThreadAt, WordAt}
+use Rattle.commands.specs.Places.{threadPlace, wordPlace}
+use Rattle.commands.proofs.Places.{thread-there, word-there}
 use Rattle.rules.proofs.Rows.{Same, _then_, same-first}
 use Rattle.rules.proofs.Passed.{thread-process, thread-index, uaddr-inside}
 
@@ -25,7 +26,7 @@ rowsRead c s ws t i =
     ∷ EBADF when brokenTables (world s ws)
     ∷ callRows c (threadOf s t .waiting) (s .clock) (s .count) (getD ws i 0)
 
-module _ (c : Call) (s : State) (ws : List ℕ) (t i : ℕ) (thread : ThreadAt (c .process) (c .index) t) (word : WordAt (c .process) (c .uaddr) i) where
+module _ (c : Call) (s : State) (ws : List ℕ) (t i : ℕ) (thread : t ≡ threadPlace (c .process) (c .index)) (word : i ≡ wordPlace (c .process) (c .uaddr)) where
   same-rows : Same (rowsRead c s ws t i) (callRefusals c (world s ws))
   unfolding callRefusals callRows
   same-rows =
@@ -34,12 +35,12 @@ module _ (c : Call) (s : State) (ws : List ℕ) (t i : ℕ) (thread : ThreadAt (
       refl then λ h2.
       refl then λ h3.
       let p = thread-process (c .process) (c .index) h3 in
-      ap (λ u. threadOf s u .waiting) (thread .exact p (thread-index (c .process) (c .index) h3)) then λ h4.
+      ap (λ u. threadOf s u .waiting) (thread-there _ _ thread p (thread-index (c .process) (c .index) h3)) then λ h4.
       refl then λ h5.
       refl then λ h6.
       refl then λ h7.
       refl then λ h8.
-      ap (λ j. differs k c (getD ws j 0)) (word .exact p (leb-false bytesPerProcess (c .uaddr) (uaddr-inside k c h7))) then λ h9.
+      ap (λ j. differs k c (getD ws j 0)) (word-there _ _ word p (leb-false bytesPerProcess (c .uaddr) (uaddr-inside k c h7))) then λ h9.
       refl then λ h10.
       refl then λ h11.
       tt

@@ -1,3 +1,4 @@
+use Rattle.commands.proofs.Places.{thread-there}
 use borrow.Author.Needs.{needs}
 use Rattle.rules.specs.Calls.{wait}
 use Rattle.effects.proofs.wait.Statement.{statement}
@@ -25,7 +26,7 @@ returns : tie.Need-returns
 unfolding wait
 returns c =
     let g = c .before .before .before .before .before .before in
-    let at = c .before .before .before .before .thread-index .ensures .exact (g .pre .process) (g .pre .index) in
+    let at = thread-there _ _ (c .before .before .before .before .thread-index .ensures) (g .pre .process) (g .pre .index) in
     rw (c .fall-asleep .ensures, at, c .before .before .before .mask-of .ensures, c .before .before .timeout-given .ensures, c .before .deadline-of .ensures, c .before .before .before .before .before .uses-by .ensures)
 
 pub wait-spec : {M : Type 1} → statement M

@@ -1,3 +1,4 @@
+use Rattle.commands.proofs.Places.{word-there}
 use borrow.Author.Needs.{needs}
 use mathlib.Core.Path.{sym, ap, _∙_}
 use lib.ListN.{getD, set}
@@ -41,7 +42,7 @@ returns c =
     let w = c .before .before .before .before in
     let k = g .args .c in
     let ws = g .args .words .now in
-    let at = w .word-index .ensures .exact (g .pre .0 .process) (g .pre .1 .0) in
+    let at = word-there _ _ (w .word-index .ensures) (g .pre .0 .process) (g .pre .1 .0) in
     let new = c .before .before .new-word .ensures ∙ ap (λ j. newWord (k .val3) (getD ws j 0)) at in (
       c .release-both .ensures ws (sym (c .before .compares .ensures ∙ ap (λ j. compares (k .val3) (getD ws j 0)) at)),
       (λ i. set ws (at i) (new i)),

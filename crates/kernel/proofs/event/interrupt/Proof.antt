@@ -1,4 +1,5 @@
 use Rattle.rules.specs.Claims.{Clear}
+use Rattle.commands.proofs.Places.{thread-below, thread-there}
 use borrow.Author.Needs.{needs}
 use mathlib.Core.Path.{_≡_, sym, ap, _∙_}
 use mathlib.Core.Bool.{false}
@@ -72,10 +73,10 @@ returns-2 c =
     let g = start m in
     let pass = e .before .before .enum-told .given .1 in
     let h : noThread (g .args .process) (g .args .index) ≡ false = unfold refusals in (clear m pass .1 .1 .0) in
-    let at = e .before .thread-index .ensures .exact (thread-process (g .args .process) (g .args .index) h) (thread-index (g .args .process) (g .args .index) h) in
+    let at = thread-there _ _ (e .before .thread-index .ensures) (thread-process (g .args .process) (g .args .index) h) (thread-index (g .args .process) (g .args .index) h) in
     follows-passed (event g) (g .args .s) (g .args .words .now) (m .of-interrupt .result) (m .of-interrupt .ensures) (c .counted .result) _ pass
     (c .counted .ensures
-    ∙ interrupt-ends (e .before .thread-index .result) (g .args .s) (g .args .words .now) (sound m pass) (e .before .thread-index .ensures .inside) (e .end-first .result) (e .end-first .ensures)
+    ∙ interrupt-ends (e .before .thread-index .result) (g .args .s) (g .args .words .now) (sound m pass) (thread-below _ _ (e .before .thread-index .ensures)) (e .end-first .result) (e .end-first .ensures)
     ∙ ap (λ t. answered (interruptEffect t (lent g))) at)
     (sym (interrupt-words (threadNumber (g .args .process) (g .args .index)) (lent g)))
 

@@ -1,4 +1,5 @@
 use Rattle.rules.specs.Claims.{Clear}
+use Rattle.commands.proofs.Places.{word-below, word-there}
 use borrow.Author.Needs.{needs}
 use mathlib.Core.Path.{_≡_, ap}
 use native.Mathlib.Omega.{arith}
@@ -49,7 +50,7 @@ slice-write-words : tie.Need-slice-write-words
 unfolding refusals
 slice-write-words c =
     let m = c .before .before .before in
-    omega (arith, c .word-index .ensures .inside, memory-is (lent (start m)) (clear m (c .before .enum-told .given .1) .0))
+    omega (arith, word-below _ _ (c .word-index .ensures), memory-is (lent (start m)) (clear m (c .before .enum-told .given .1) .0))
 
 counted-requires : tie.Need-counted-requires
 counted-requires c κs = search needs
@@ -73,7 +74,7 @@ returns-2 c =
     let g = start m in
     let pass = c .before .before .enum-told .given .1 in
     let h = clear m pass in
-    let at = c .before .word-index .ensures .exact (leb-false processes (g .args .process) (h .1 .1 .0)) (leb-false bytesPerProcess (g .args .address) (h .1 .1 .1 .1 .0)) in
+    let at = word-there _ _ (c .before .word-index .ensures) (leb-false processes (g .args .process) (h .1 .1 .0)) (leb-false bytesPerProcess (g .args .address) (h .1 .1 .1 .1 .0)) in
     follows-passed (event g) (g .args .s) (g .args .words .now) (m .of-store .result) (m .of-store .ensures) (c .counted .result) _ pass (c .counted .ensures)
     (ap (λ i. set (g .args .words .now) i (g .args .value)) at)
 

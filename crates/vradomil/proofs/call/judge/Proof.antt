@@ -13,6 +13,7 @@ use Rattle.layout.specs.Check.{Held}
 use Rattle.layout.proofs.Reading.{thread-read, clock-read, count-read}
 use Rattle.rules.proofs.Rows.{not-pass}
 use Rattle.vradomil.proofs.Steps.{event-refused, buffers-passed}
+use Rattle.commands.proofs.Places.{thread-below, word-below}
 use borrow.Author.Needs.{needs}
 use Rattle.vradomil.proofs.call.judge.Statement.{statement}
 use Rattle.vradomil.proofs.call.judge.Tie as tie
@@ -37,13 +38,13 @@ thread-index-requires : tie.Need-thread-index-requires
 thread-index-requires c κs = search needs
 
 thread-at-requires : tie.Need-thread-at-requires
-thread-at-requires c κs = (held (c .before) .size, c .thread-index .ensures .inside)
+thread-at-requires c κs = (held (c .before) .size, thread-below _ _ (c .thread-index .ensures))
 
 word-index-requires : tie.Need-word-index-requires
 word-index-requires c κs = search needs
 
 word-at-requires : tie.Need-word-at-requires
-word-at-requires c κs = (long (c .before .before .before), c .word-index .ensures .inside)
+word-at-requires c κs = (long (c .before .before .before), word-below _ _ (c .word-index .ensures))
 
 u64-at-requires : tie.Need-u64-at-requires
 u64-at-requires c κs = omega (arith, held (c .before .before .before .before) .size)
@@ -82,7 +83,7 @@ returns-2 c =
     let ws = wordsAt m in
     let x = t .thread-index .result in
     let h = held p in
-    let thread = r .thread-at .ensures ∙ sym (thread-read b x (t .thread-index .ensures .inside)) in
+    let thread = r .thread-at .ensures ∙ sym (thread-read b x (thread-below _ _ (t .thread-index .ensures))) in
     let clock = k .u64-at .ensures .0 ∙ clock-read b in
     let count = n .u64-at2 .ensures .0 ∙ count-read b in
     record {

@@ -5,6 +5,7 @@ use Rattle.rules.specs.Calls.{wait}
 use Rattle.layout.specs.Layout.{stateAt, tablesBytes}
 use Rattle.layout.proofs.Reading.{clock-read}
 use Rattle.vradomil.proofs.Effects.{asleep-is}
+use Rattle.commands.proofs.Places.{thread-below, thread-there}
 use borrow.Author.Needs.{needs}
 use Rattle.vradomil.proofs.call.wait.Statement.{statement}
 use Rattle.vradomil.proofs.call.wait.Tie as tie
@@ -31,7 +32,7 @@ deadline-of-requires : tie.Need-deadline-of-requires
 deadline-of-requires c κs = search needs
 
 fall-asleep-requires : tie.Need-fall-asleep-requires
-fall-asleep-requires c κs = (start c .pre .held, (c .before .before .before .before .before .before .thread-index .ensures .inside, start c .pre .ready .room))
+fall-asleep-requires c κs = (start c .pre .held, (thread-below _ _ (c .before .before .before .before .before .before .thread-index .ensures), start c .pre .ready .room))
 
 same-length : tie.Need-same-length
 same-length c = search needs
@@ -48,7 +49,7 @@ returns c =
     let u = i .before in
     let g = u .before .before in
     let b = now (g .args .b) in
-    let at = i .thread-index .ensures .exact (g .pre .ready .process) (g .pre .ready .index) in
+    let at = thread-there _ _ (i .thread-index .ensures) (g .pre .ready .process) (g .pre .ready .index) in
     record {
       number = refl;
       small = omega arith;

@@ -10,6 +10,7 @@ use Rattle.rules.specs.WakeOp.{newWord, compares}
 use Rattle.rules.specs.Calls.{wakeOp}
 use Rattle.layout.specs.Layout.{wordsAt, wordsBytes}
 use Rattle.vradomil.proofs.Memory.{word-written}
+use Rattle.commands.proofs.Places.{word-below, word-there}
 use borrow.Author.Needs.{needs}
 use Rattle.vradomil.proofs.call.wake_op.Statement.{statement}
 use Rattle.vradomil.proofs.call.wake_op.Tie as tie
@@ -55,12 +56,12 @@ returns c =
     let m = now (g .args .words) in
     let ws = wordsAt m in
     let x = i .word-index .result in
-    let at = i .word-index .ensures .exact (g .pre .0 .ready .process) (g .pre .1 .0) in
+    let at = word-there _ _ (i .word-index .ensures) (g .pre .0 .ready .process) (g .pre .1 .0) in
     let old = w .word-at .ensures ∙ ap (λ j. getD ws j 0) at in
     let new = n .new-word .ensures ∙ ap (newWord (k .val3)) old in
     let low : Bytes m = λ (j : ℕ). omega (arith, i .before .slice-known2 .given j) in (
       r .release-both .ensures ws (sym (o .compares .ensures ∙ ap (compares (k .val3)) old)),
-      p .put-u32 .ensures ∙ word-written memoryWords m x (n .new-word .result) (g .pre .1 .1) low (i .word-index .ensures .inside) ∙ ap wordsBytes (λ j. set ws (at j) (new j)),
+      p .put-u32 .ensures ∙ word-written memoryWords m x (n .new-word .result) (g .pre .1 .1) low (word-below _ _ (i .word-index .ensures)) ∙ ap wordsBytes (λ j. set ws (at j) (new j)),
     )
 
 pub wake-op-spec : {M : Type 1} → statement M

@@ -26,6 +26,7 @@ use Rattle.layout.specs.Check.{Held}
 use Rattle.vradomil.specs.Host.{seen}
 use Rattle.vradomil.proofs.Steps.{read-back, stands, standing, took-done, event-refused, event-passed, changes-tables-refused, changes-tables-done}
 use Rattle.vradomil.proofs.Effects.{Ended, ended, answered-leaves}
+use Rattle.commands.proofs.Places.{thread-below, thread-there}
 use borrow.Author.Needs.{needs}
 use Rattle.vradomil.proofs.event.vradomil_interrupt.Statement.{statement}
 use Rattle.vradomil.proofs.event.vradomil_interrupt.Tie as tie
@@ -131,12 +132,12 @@ returns-3 c =
     let s = stateAt b in
     let x = t .thread-index .result in
     let exists : noThread (g .args .process) (g .args .index) ≡ false = sym (n .no-thread .ensures) ∙ o .if1 .left in
-    let at = t .thread-index .ensures .exact (thread-process (g .args .process) (g .args .index) exists) (thread-index (g .args .process) (g .args .index) exists) in
+    let at = thread-there _ _ (t .thread-index .ensures) (thread-process (g .args .process) (g .args .index) exists) (thread-index (g .args .process) (g .args .index) exists) in
     let taken = endFirst Interrupted (flagged (one x)) 1 s in
     changes-tables-done (event g) b m _ (e .end-first .result) _ (held p) (own p ∙ rw exists)
     (toZ-pos w32 {n = e .end-first .result} (omega (arith, stopped e .few)))
     (answered-leaves (interruptEffect (threadNumber (g .args .process) (g .args .index)) (world s (wordsAt m))) _ (e .end-first .result) _
-    (interrupt-ends x s (wordsAt m) (sound p) (t .thread-index .ensures .inside) taken refl ∙ ap (λ q. answered (interruptEffect q (world s (wordsAt m)))) at)
+    (interrupt-ends x s (wordsAt m) (sound p) (thread-below _ _ (t .thread-index .ensures)) taken refl ∙ ap (λ q. answered (interruptEffect q (world s (wordsAt m)))) at)
     (took-done taken (e .end-first .result) _ (stopped e .took) (omega (arith, stopped e .few))))
 
 pub vradomil-interrupt-spec : {M : Type 1} → statement M

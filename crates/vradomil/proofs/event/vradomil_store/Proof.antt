@@ -20,6 +20,7 @@ use Rattle.layout.specs.Layout.{wordsAt, wordsBytes}
 use Rattle.vradomil.specs.Host.{seen}
 use Rattle.vradomil.proofs.Memory.{word-written}
 use Rattle.vradomil.proofs.Steps.{read-back, event-refused, event-passed, changes-words-refused, number-passed, words-passed}
+use Rattle.commands.proofs.Places.{word-below, word-there}
 use borrow.Author.Needs.{needs}
 use Rattle.vradomil.proofs.event.vradomil_store.Statement.{statement}
 use Rattle.vradomil.proofs.event.vradomil_store.Tie as tie
@@ -81,7 +82,7 @@ put-u32-requires : tie.Need-put-u32-requires
 put-u32-requires c κs =
     let i = c .before in
     let l = i .before .before .before .before .before .before .before .before in
-    omega (arith, i .word-index .ensures .inside, l .judge-buffers .ensures .long (i .before .before .before .before .before .before .enum-told .given .1))
+    omega (arith, word-below _ _ (i .word-index .ensures), l .judge-buffers .ensures .long (i .before .before .before .before .before .before .enum-told .given .1))
 
 same-length : tie.Need-same-length
 same-length c = search needs
@@ -118,14 +119,14 @@ returns-3 c =
     let m = now (g .args .words) in
     let pass = i .before .enum-told2 .given .1 in
     let own = pass-clear (ownRows (event g) (seen b m)) (sym (own-verdict r) ∙ pass) in
-    let at = i .word-index .ensures .exact (leb-false processes (g .args .process) (own .0)) (leb-false bytesPerProcess (g .args .address) (own .1 .1 .0)) in
+    let at = word-there _ _ (i .word-index .ensures) (leb-false processes (g .args .process) (own .0)) (leb-false bytesPerProcess (g .args .address) (own .1 .1 .0)) in
     let low : Bytes m = λ (j : ℕ). omega (arith, l .before .before .slice-known .given j) in
     let long = l .judge-buffers .ensures .long (r .before .before .before .enum-told .given .1) in
     let h = sym (verdict r) ∙ pass in
     record {
       number = number-passed (event g) b m _ h refl;
       bytes = words-passed (event g) b m _ h refl _
-          (p .put-u32 .ensures ∙ word-written memoryWords m (i .word-index .result) (g .args .value) long low (i .word-index .ensures .inside) ∙ ap (λ x. wordsBytes (set (wordsAt m) x (g .args .value))) at);
+          (p .put-u32 .ensures ∙ word-written memoryWords m (i .word-index .result) (g .args .value) long low (word-below _ _ (i .word-index .ensures)) ∙ ap (λ x. wordsBytes (set (wordsAt m) x (g .args .value))) at);
     }
 
 pub vradomil-store-spec : {M : Type 1} → statement M
