@@ -1,7 +1,7 @@
 -- The bytes of tables stand for these tables, where each number fits its field.
 use mathlib.Core.Path.{_≡_, refl, sym, ap, _∙_}
 use mathlib.Core.Bool.{Bool, true, false}
-use mathlib.Core.List.{List, [], map}
+use mathlib.Core.List.{List, [], map, flatten}
 use Prim.Native.Nat.{ℕ, _+_, _*_, _^_, _≤_, _<_}
 use native.Mathlib.Omega.{arith}
 use lib.ListN.{length, take, drop, getD}
@@ -18,7 +18,7 @@ use Rattle.tables.specs.declared.State.{State}
 use Rattle.tables.specs.declared.Thread.{Thread}
 use Rattle.tables.specs.Sizes.{threads, wordBytes}
 use Rattle.tables.specs.Tables.{freshThread, threadOf}
-use Rattle.layout.specs.Layout.{timeBytes, column, columns, concat, lastByte, maxLast, lastOf, waitingByte, timedByte, tablesBytes, tablesAt, stateAt, threadAt, tablesSize, flagsOk, clockAt, waitingAt, timedAt, lastAt, uaddrAt, bitsetAt, deadlineAt}
+use Rattle.layout.specs.Layout.{timeBytes, column, columns, lastByte, maxLast, lastOf, waitingByte, timedByte, tablesBytes, tablesAt, stateAt, threadAt, tablesSize, flagsOk, clockAt, waitingAt, timedAt, lastAt, uaddrAt, bitsetAt, deadlineAt}
 use Rattle.layout.proofs.Columns.{length-column, entry-read, before, get-column, column-read}
 use Rattle.layout.proofs.Exact.{sizes, last-low, last-back}
 use Rattle.changes.specs.Change.{Whole, Stands, Fits}
@@ -41,7 +41,7 @@ module _ (s : State) (b : List ℕ) (h : Stands s b) (fit : Fits s) where
       let long : length (getD (columns s) j []) ≡ w * threads = ap length is ∙ length-column w f (s .threads) ∙ ap (w *_) (shape .records) in
       let there : k ≡ before j (map length (columns s)) + w * i = here ∙ ap (_+ w * i) (sym place ∙ ap (before j) (sym (sized s shape))) in
       ap (λ l. numberAt w k l) (h .bytes)
-      ∙ ap (λ n. numberAt w n (concat (columns s))) there
+      ∙ ap (λ n. numberAt w n (flatten (columns s))) there
       ∙ ap le (get-column (columns s) j (w * i) w (rw long inside) ∙ ap (λ c. take w (drop (w * i) c)) is
       ∙ entry-read w f (s .threads) i freshThread (omega (arith, shape .records)))
       ∙ le-bytes w (f (threadOf s i)) small

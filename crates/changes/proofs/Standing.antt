@@ -13,7 +13,7 @@ use Rattle.tables.specs.Tables.{tablesOk}
 use Rattle.tables.proofs.Sound.{tables-sound, entries, few}
 use Rattle.layout.specs.Layout.{timeBytes, columns, tablesBytes, tablesSize, countAt, listAt}
 use Rattle.changes.specs.Change.{Whole, Stands}
-use Rattle.layout.proofs.Columns.{total, length-concat, column-read}
+use Rattle.layout.proofs.Columns.{total, length-flatten, column-read}
 use Rattle.changes.proofs.Writing.{sized}
 
 pub whole : (s : State) → tablesOk s ≡ true → Whole s
@@ -25,7 +25,7 @@ module _ (s : State) (b : List ℕ) (h : Stands s b) where
 
   pub size-held : length b ≡ tablesSize
   unfolding tablesBytes
-  size-held = ap length (h .bytes) ∙ length-concat (columns s) ∙ ap total (sized s shape)
+  size-held = ap length (h .bytes) ∙ length-flatten (columns s) ∙ ap total (sized s shape)
 
   pub list-held : take threads (drop listAt b) ≡ s .list
   unfolding tablesBytes

@@ -1,7 +1,7 @@
 -- A store in a column of the tables' bytes is a change of the tables.
 use mathlib.Core.Path.{_≡_, refl, sym, ap, _∙_, subst}
 use mathlib.Core.Bool.{Bool}
-use mathlib.Core.List.{List, [], _∷_, map}
+use mathlib.Core.List.{List, [], _∷_, map, flatten}
 use Prim.Native.Nat.{ℕ, zero, suc, _+_, _*_, _≤_, _<_}
 use native.Mathlib.Omega.{arith}
 use lib.ListN.{length, getD, set}
@@ -15,7 +15,7 @@ use Rattle.tables.specs.declared.Thread.{Thread}
 use Rattle.tables.specs.declared.LastAnswer.{LastAnswer}
 use Rattle.tables.specs.Sizes.{threads, wordBytes}
 use Rattle.tables.specs.Tables.{freshThread, threadOf, withSleep, withLast, movedTo, withClock}
-use Rattle.layout.specs.Layout.{timeBytes, column, columns, concat, tablesBytes, lastByte, waitingByte, timedByte, clockAt, countAt, listAt, waitingAt, timedAt, lastAt, uaddrAt, bitsetAt, deadlineAt}
+use Rattle.layout.specs.Layout.{timeBytes, column, columns, tablesBytes, lastByte, waitingByte, timedByte, clockAt, countAt, listAt, waitingAt, timedAt, lastAt, uaddrAt, bitsetAt, deadlineAt}
 use Rattle.changes.specs.Change.{Whole, atThread}
 use Rattle.layout.proofs.Columns.{length-column, column-set, column-same, before, put-column}
 use Rattle.layout.proofs.Exact.{sizes}
@@ -33,7 +33,7 @@ length-of (c ∷ cs) (suc j) = length-of cs j
 
 -- bytes in columns of these sizes
 record InColumns (b : List ℕ) (cs : List (List ℕ)) : Type 0 where
-  stored : b ≡ concat cs
+  stored : b ≡ flatten cs
   sized : map length cs ≡ sizes
 
 put : (b : List ℕ) (cs ds : List (List ℕ)) → InColumns b cs → (j k at : ℕ) (vs : List ℕ) → before j sizes + k ≡ at → k + length vs ≤ getD sizes j 0
@@ -42,8 +42,8 @@ put b cs ds c j k at vs place fits new is all =
     let long : length (getD cs j []) ≡ getD sizes j 0 = length-of cs j ∙ ap (λ ns. getD ns j 0) (c .sized) in
     let here : before j (map length cs) + k ≡ at = ap (λ ns. before j ns + k) (c .sized) ∙ place in
     record {
-      stored = ap (λ l. sets l at vs) (c .stored) ∙ ap (λ n. sets (concat cs) n vs) (sym here) ∙ put-column cs j k vs (rw long fits)
-          ∙ ap (λ l. concat (set cs j l)) is ∙ ap concat all;
+      stored = ap (λ l. sets l at vs) (c .stored) ∙ ap (λ n. sets (flatten cs) n vs) (sym here) ∙ put-column cs j k vs (rw long fits)
+          ∙ ap (λ l. flatten (set cs j l)) is ∙ ap flatten all;
       sized = ap (map length) (sym all) ∙ lengths-set cs j new (ap length (sym is) ∙ length-sets (getD cs j []) k vs ∙ length-of cs j) ∙ c .sized;
     }
 

@@ -1,5 +1,5 @@
 -- A place is inside the tables or the memory, and of a thread or an address that exists it is its own.
-use mathlib.Core.Path.{_≡_, _∙_}
+use mathlib.Core.Path.{_≡_}
 use Prim.Native.Nat.{ℕ, _<_}
 use native.Mathlib.Omega.{arith}
 use Rattle.tables.specs.Sizes.{processes, threadsPerProcess, threads, bytesPerProcess, memoryWords}

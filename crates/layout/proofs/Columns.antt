@@ -1,6 +1,6 @@
 -- Columns of bytes: numbers of one width behind each other, and columns behind each other.
 use mathlib.Core.Path.{_≡_, refl, sym, ap, _∙_}
-use mathlib.Core.List.{List, [], _∷_, _++_, map}
+use mathlib.Core.List.{List, [], _∷_, _++_, map, flatten}
 use Prim.Native.Nat.{ℕ, zero, suc, _+_, _*_, _≤_, _<_}
 use native.Mathlib.Omega.{arith}
 use native.Mathlib.Nat.{mul-zero, mul-suc, zero-add, add-zero, add-assoc}
@@ -10,7 +10,7 @@ use Rattle.lists.specs.Lists.{tabulate}
 use Rattle.lists.specs.LittleEndian.{bytes, Bytes, numberAt}
 use Rattle.lists.proofs.Stores.{sets-left, sets-right, sets-all}
 use Rattle.lists.proofs.LittleEndian.{length-bytes, bytes-drop, bytes-read}
-use Rattle.layout.specs.Layout.{column, concat}
+use Rattle.layout.specs.Layout.{column}
 
 -- bytes that are read as a number and written again
 pub exact : (b : List ℕ) → Bytes b → (w k : ℕ) → k + w ≤ length b → bytes w (numberAt w k b) ≡ take w (drop k b)
@@ -71,33 +71,35 @@ before (suc j) (n ∷ ns) = n + before j ns
 
 -- a store in the j-th column
 pub put-column : (cs : List (List ℕ)) (j k : ℕ) (vs : List ℕ) → k + length vs ≤ length (getD cs j [])
-    → sets (concat cs) (before j (map length cs) + k) vs ≡ concat (set cs j (sets (getD cs j []) k vs))
+    → sets (flatten cs) (before j (map length cs) + k) vs ≡ flatten (set cs j (sets (getD cs j []) k vs))
+unfolding flatten
 put-column [] j k [] h = refl
 put-column [] j k (v ∷ vs) h = absurd (omega arith)
-put-column (c ∷ cs) zero k vs h = rw zero-add (sets-left c (concat cs) k vs h)
+put-column (c ∷ cs) zero k vs h = rw zero-add (sets-left c (flatten cs) k vs h)
 put-column (c ∷ cs) (suc j) k vs h =
-    ap (λ n. sets (c ++ concat cs) n vs) (add-assoc (length c) (before j (map length cs)) k)
-    ∙ sets-right c (concat cs) (before j (map length cs) + k) vs
+    ap (λ n. sets (c ++ flatten cs) n vs) (add-assoc (length c) (before j (map length cs)) k)
+    ∙ sets-right c (flatten cs) (before j (map length cs) + k) vs
     ∙ ap (λ l. c ++ l) (put-column cs j k vs h)
 
 -- a part of the j-th column
 pub get-column : (cs : List (List ℕ)) (j k w : ℕ) → k + w ≤ length (getD cs j [])
-    → take w (drop (before j (map length cs) + k) (concat cs)) ≡ take w (drop k (getD cs j []))
+    → take w (drop (before j (map length cs) + k) (flatten cs)) ≡ take w (drop k (getD cs j []))
+unfolding flatten
 get-column [] zero k w h = rw zero-add
 get-column [] (suc j) k w h = rw zero-add
 get-column (c ∷ cs) zero k w h =
-    rw (zero-add, drop-append-le k c (concat cs) (omega arith)) (take-append-le w (drop k c) (concat cs) (rw length-drop (omega arith)))
+    rw (zero-add, drop-append-le k c (flatten cs) (omega arith)) (take-append-le w (drop k c) (flatten cs) (rw length-drop (omega arith)))
 get-column (c ∷ cs) (suc j) k w h =
-    ap (λ n. take w (drop n (c ++ concat cs))) (add-assoc (length c) (before j (map length cs)) k)
-    ∙ ap (take w) (drop-append-add c (concat cs) (before j (map length cs) + k))
+    ap (λ n. take w (drop n (c ++ flatten cs))) (add-assoc (length c) (before j (map length cs)) k)
+    ∙ ap (take w) (drop-append-add c (flatten cs) (before j (map length cs) + k))
     ∙ get-column cs j k w h
 
 -- a whole column, of columns of these sizes
 pub column-read : (cs : List (List ℕ)) {ns : List ℕ} → map length cs ≡ ns → (j at w : ℕ) (c : List ℕ) → before j ns ≡ at → getD cs j [] ≡ c → length c ≡ w
-    → take w (drop at (concat cs)) ≡ c
+    → take w (drop at (flatten cs)) ≡ c
 column-read cs size j at w c place is long =
     let here : at ≡ before j (map length cs) + 0 = sym place ∙ ap (before j) (sym size) ∙ sym (add-zero (before j (map length cs))) in
-    ap (λ n. take w (drop n (concat cs))) here
+    ap (λ n. take w (drop n (flatten cs))) here
     ∙ get-column cs j 0 w (omega (arith, ap length is, long))
     ∙ ap (take w) is
     ∙ take-all w c (omega (arith, long))
@@ -111,12 +113,14 @@ abbrev pub total : List ℕ → ℕ
 total [] = 0
 total (n ∷ ns) = n + total ns
 
-pub length-concat : (cs : List (List ℕ)) → length (concat cs) ≡ total (map length cs)
-length-concat [] = refl
-length-concat (c ∷ cs) = length-append c (concat cs) ∙ ap (λ n. length c + n) (length-concat cs)
+pub length-flatten : (cs : List (List ℕ)) → length (flatten cs) ≡ total (map length cs)
+unfolding flatten
+length-flatten [] = refl
+length-flatten (c ∷ cs) = length-append c (flatten cs) ∙ ap (λ n. length c + n) (length-flatten cs)
 
-pub concat-cuts : (k : ℕ) (ns b : List ℕ) → concat (cuts k ns b) ≡ take (total ns) (drop k b)
-concat-cuts k [] b = refl
-concat-cuts k (n ∷ ns) b =
-    ap (λ l. take n (drop k b) ++ l) (concat-cuts (k + n) ns b ∙ ap (take (total ns)) (sym (drop-drop n k b)))
+pub flatten-cuts : (k : ℕ) (ns b : List ℕ) → flatten (cuts k ns b) ≡ take (total ns) (drop k b)
+unfolding flatten
+flatten-cuts k [] b = refl
+flatten-cuts k (n ∷ ns) b =
+    ap (λ l. take n (drop k b) ++ l) (flatten-cuts (k + n) ns b ∙ ap (take (total ns)) (sym (drop-drop n k b)))
     ∙ sym (take-add n (total ns) (drop k b))

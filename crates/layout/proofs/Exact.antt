@@ -1,7 +1,7 @@
 -- Bytes that stand for tables are the bytes of these tables, and bytes of words the bytes of these words.
 use mathlib.Core.Path.{_≡_, refl, sym, ap, _∙_}
 use mathlib.Core.Bool.{true, _&&_}
-use mathlib.Core.List.{List, [], _∷_}
+use mathlib.Core.List.{List, [], _∷_, flatten}
 use Prim.Native.Nat.{ℕ, zero, suc, _+_, _*_, _%_, _≤_, _<_}
 use native.Mathlib.Omega.{arith}
 use lib.ListN.{length, take, drop, getD}
@@ -16,8 +16,8 @@ use Rattle.tables.specs.declared.Thread.{Thread}
 use Rattle.tables.specs.declared.LastAnswer.{LastAnswer}
 use Rattle.tables.specs.declared.LastAnswer.the-variants.{NoneYet, Woken, TimedOut, Interrupted}
 use Rattle.tables.specs.Sizes.{threads, wordBytes}
-use Rattle.layout.specs.Layout.{timeBytes, column, columns, concat, threadAt, stateAt, tablesBytes, tablesSize, lastByte, maxLast, lastOf, waitingByte, timedByte, flagsOk, clockAt, countAt, listAt, waitingAt, timedAt, lastAt, uaddrAt, bitsetAt, deadlineAt, wordsBytes, wordsOf}
-use Rattle.layout.proofs.Columns.{exact, column-tabulate, cuts, concat-cuts}
+use Rattle.layout.specs.Layout.{timeBytes, column, columns, threadAt, stateAt, tablesBytes, tablesSize, lastByte, maxLast, lastOf, waitingByte, timedByte, flagsOk, clockAt, countAt, listAt, waitingAt, timedAt, lastAt, uaddrAt, bitsetAt, deadlineAt, wordsBytes, wordsOf}
+use Rattle.layout.proofs.Columns.{exact, column-tabulate, cuts, flatten-cuts}
 
 -- the sizes of the columns
 abbrev pub sizes : List ℕ
@@ -94,7 +94,7 @@ module _ (b : List ℕ) (size : length b ≡ tablesSize) (flags : everyBelow thr
 
   pub tables-exact : b ≡ tablesBytes (stateAt b)
   unfolding tablesBytes
-  tables-exact = sym (ap concat columns-cut ∙ concat-cuts 0 sizes b ∙ take-all tablesSize b (omega (arith, size)))
+  tables-exact = sym (ap flatten columns-cut ∙ flatten-cuts 0 sizes b ∙ take-all tablesSize b (omega (arith, size)))
 
 -- the words: those of bytes of the right length, and these bytes
 pub words-read : (n : ℕ) (m : List ℕ) → length m ≡ wordBytes * n → wordsOf n m ≡ tabulate n (λ i. numberAt wordBytes (wordBytes * i) m)

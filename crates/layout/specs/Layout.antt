@@ -1,6 +1,6 @@
 -- The tables and the words as bytes: docs/TABLES.md as definitions. Numbers are little-endian.
 use mathlib.Core.Bool.{Bool, cond, _&&_}
-use mathlib.Core.List.{List, [], _∷_, _++_}
+use mathlib.Core.List.{List, [], _∷_, _++_, flatten}
 use Prim.Native.Nat.{ℕ, _+_, _*_}
 use lib.ListN.{length, take, drop, getD}
 use lib.Dec.{eqb, leb}
@@ -21,10 +21,6 @@ module _ {A : Type 0} where
   abbrev pub column : ℕ → (A → ℕ) → List A → List ℕ
   column w f [] = []
   column w f (x ∷ xs) = bytes w (f x) ++ column w f xs
-
-abbrev pub concat : List (List ℕ) → List ℕ
-concat [] = []
-concat (c ∷ cs) = c ++ concat cs
 
 -- "the last answer is one of the four"
 abbrev pub lastByte : LastAnswer → ℕ
@@ -59,7 +55,7 @@ columns s =
 
 -- the bytes of tables
 unfoldable pub tablesBytes : State → List ℕ
-tablesBytes s = concat (columns s)
+tablesBytes s = flatten (columns s)
 
 -- where each column begins
 abbrev pub clockAt : ℕ

@@ -8,3 +8,4 @@ pub mod LeftOver
 pub mod Stores
 pub mod LittleEndian
 pub mod Tabulate
+pub mod Library

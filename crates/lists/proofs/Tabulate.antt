@@ -19,7 +19,7 @@ module _ {A : Type 0} where
   getD-tabulate (suc n) f (suc i) d h = getD-tabulate n (λ j. f (suc j)) i d (omega arith)
 
   -- one element more
-  tabulate-next : (n : ℕ) (f : ℕ → A) → tabulate (suc n) f ≡ tabulate n f ++ (f n ∷ [])
+  pub tabulate-next : (n : ℕ) (f : ℕ → A) → tabulate (suc n) f ≡ tabulate n f ++ (f n ∷ [])
   tabulate-next zero f = refl
   tabulate-next (suc n) f = ap (λ l. f zero ∷ l) (tabulate-next n (λ i. f (suc i)))
 

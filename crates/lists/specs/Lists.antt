@@ -1,4 +1,5 @@
--- The list functions that the rules of the kernel are written with.
+-- The list functions that the rules of the kernel are written with. filter, all, elem, distinct and countBelow are what the library
+-- means by filter, "each element", membership, no element twice, and a count: proofs/Library.antt.
 use mathlib.Core.Bool.{Bool, true, false, not, cond, _&&_, _||_}
 use mathlib.Core.List.{List, [], _∷_, _++_}
 use Prim.Native.Nat.{ℕ, suc, zero, _+_, _-_}
