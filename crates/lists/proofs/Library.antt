@@ -1,7 +1,7 @@
 -- The list functions of specs/Lists.antt in the library's words: those that share a name with one of the library's mean the same.
 use mathlib.Core.Path.{_≡_, refl, sym, ap, _∙_}
 use mathlib.Core.Bool.{Bool, true, false, not, Bool-discrete, So-prop, or-true}
-use mathlib.Core.List.{List, [], _∷_, List·Mem, List·Nodup, nodup-nil, nodup-cons, mem-cons-self, mem-cons-of-mem, not-mem-nil, eq-or-mem-of-mem-cons, forall-mem-cons, _++_}
+use mathlib.Core.List.{List, [], _∷_, List·Mem, List·Nodup, nodup-nil, nodup-cons, mem-cons-self, mem-cons-of-mem, not-mem-nil, eq-or-mem-of-mem-cons, forall-mem-cons}
 use mathlib.Core.List as Library
 use mathlib.Core.Logic.{_↔_, Or·elim}
 use Prim.Native.Nat.{ℕ, zero, suc, _+_}

@@ -12,7 +12,7 @@ use Rattle.tables.specs.Sizes.{bytesPerProcess}
 use Rattle.tables.specs.Tables.{threadOf, world}
 use Rattle.rules.specs.Answers.{Row, _when_, first}
 use Rattle.rules.specs.Commands.{commandOf}
-use Rattle.rules.specs.Calls.{wrongMemory, brokenTables, callRows, callRefusals, differs}
+use Rattle.rules.specs.Calls.{wrongMemory, brokenTables, callRows, differs}
 use Rattle.rules.specs.Events.{refusals}
 use Rattle.commands.specs.Places.{threadPlace, wordPlace}
 use Rattle.commands.proofs.Places.{thread-there, word-there}
@@ -27,8 +27,8 @@ rowsRead c s ws t i =
     ∷ callRows c (threadOf s t .waiting) (s .clock) (s .count) (getD ws i 0)
 
 module _ (c : Call) (s : State) (ws : List ℕ) (t i : ℕ) (thread : t ≡ threadPlace (c .process) (c .index)) (word : i ≡ wordPlace (c .process) (c .uaddr)) where
-  same-rows : Same (rowsRead c s ws t i) (callRefusals c (world s ws))
-  unfolding callRefusals callRows
+  same-rows : Same (rowsRead c s ws t i) (refusals (CallEvent c) (world s ws))
+  unfolding refusals callRows
   same-rows =
       let k = commandOf (c .op) in
       refl then λ h1.
@@ -46,5 +46,4 @@ module _ (c : Call) (s : State) (ws : List ℕ) (t i : ℕ) (thread : t ≡ thre
       tt
 
   pub verdict-is : first (rowsRead c s ws t i) ≡ first (refusals (CallEvent c) (world s ws))
-  unfolding refusals
-  verdict-is = same-first (rowsRead c s ws t i) (callRefusals c (world s ws)) same-rows
+  verdict-is = same-first (rowsRead c s ws t i) (refusals (CallEvent c) (world s ws)) same-rows

@@ -24,7 +24,7 @@ use Rattle.tables.specs.Tables.{expired, expiredSleepers, World, threadNumber, 
 use Rattle.rules.specs.Answers.{Outcome, outcome}
 use Rattle.rules.specs.Commands.{commandOf, uses}
 use Rattle.rules.specs.WakeOp.{newWord}
-use Rattle.rules.specs.Calls.{wrongMemory, noThread, caller, secondCap, matches, candidates, released, moved, releasedSecond, wait, wake, requeue, wakeOp, callEffect, callRefusals, callRows, full}
+use Rattle.rules.specs.Calls.{wrongMemory, noThread, caller, secondCap, matches, candidates, released, moved, releasedSecond, wait, wake, requeue, wakeOp, callEffect, callRows, full}
 use Rattle.rules.specs.Events.{refusals, clockEffect, interruptEffect, bitsBelow, waitingSet, panel, effect, step}
 use Rattle.rules.specs.Claims.{Clear}
 use Rattle.rules.proofs.Commands.{by-command}
@@ -154,8 +154,8 @@ module _ (p : ℕ) (w : World) (g : Valid w) where
       → threadOf (w .state) (threadNumber p i) .waiting ≡ threadOf (view p w .state) (threadNumber p i) .waiting
   same-waiting i h = rw (view-state p w, view-own p (w .state) (threadNumber p i) (own-thread p i h))
 
-call-rows : (c : Call) (w : World) → Valid w → Same (callRefusals c w) (callRefusals c (view (c .process) w))
-unfolding callRefusals callRows
+call-rows : (c : Call) (w : World) → Valid w → Same (refusals (CallEvent c) w) (refusals (CallEvent c) (view (c .process) w))
+unfolding refusals callRows
 call-rows c w g =
     let p = c .process in
     same-memory p w g then λ h1.

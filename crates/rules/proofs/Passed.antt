@@ -1,3 +1,4 @@
+use Rattle.rules.specs.Events.{refusals}
 use Rattle.rules.specs.Claims.{Clear}
 -- A call that no row of the table of answers refuses: what is then known of it.
 use mathlib.Core.Path.{_≡_, ap}
@@ -10,11 +11,12 @@ use borrow.Author.Tests.{eqb-true, eq-eqb, leb-false, lt-leb, not-false}
 use Rattle.lists.proofs.Tests.{or-left, or-right, or-intro}
 use Rattle.rules.specs.declared.event.Command.{Command}
 use Rattle.rules.specs.declared.event.Call.{Call}
+use Rattle.rules.specs.declared.event.Event.the-variants.{Call as CallEvent}
 use Rattle.tables.specs.Sizes.{processes, threadsPerProcess, threads, memoryWords, maxCap}
 use Rattle.tables.specs.Tables.{outside, World, threadOf, wordAt, aligned, tablesOk}
 use Rattle.rules.specs.Commands.{commandOf, notImplemented, isUnknown, bitSet, clockBit, uses}
 use Rattle.rules.specs.WakeOp.{undefinedOp}
-use Rattle.rules.specs.Calls.{wrongMemory, noProcess, noThread, caller, secondCap, badArgument, badAddress, isWakeOp, differs, late, callRefusals, callRows}
+use Rattle.rules.specs.Calls.{wrongMemory, noProcess, noThread, caller, secondCap, badArgument, badAddress, isWakeOp, differs, late, callRows}
 use Rattle.rules.proofs.Rows.{_and_}
 use Rattle.tables.proofs.Sound.{Sound, tables-sound, sound-tables, room}
 
@@ -51,8 +53,8 @@ thread-process p i h = leb-false processes p (or-left (noProcess p) (leb threads
 pub thread-index : (p i : ℕ) → noThread p i ≡ false → i < threadsPerProcess
 thread-index p i h = leb-false threadsPerProcess i (or-right (noProcess p) (leb threadsPerProcess i) h)
 
-pub clear-passed : (c : Call) (w : World) → Clear (callRefusals c w) → Passed (commandOf (c .op)) c w
-unfolding callRefusals callRows notImplemented
+pub clear-passed : (c : Call) (w : World) → Clear (refusals (CallEvent c) w) → Passed (commandOf (c .op)) c w
+unfolding refusals callRows notImplemented
 clear-passed c w h =
     let op = h .1 .1 .1 .1 .0 in
     record {
@@ -74,8 +76,8 @@ pub caller-below : (c : Call) → c .process < processes → c .index < threadsP
 caller-below c p i = omega arith
 
 -- The last row, -12, adds nothing: the caller runs, so the list has room.
-pub passed-clear : (c : Call) (w : World) → Passed (commandOf (c .op)) c w → Clear (callRefusals c w)
-unfolding callRefusals callRows notImplemented
+pub passed-clear : (c : Call) (w : World) → Passed (commandOf (c .op)) c w → Clear (refusals (CallEvent c) w)
+unfolding refusals callRows notImplemented
 passed-clear c w g =
     memory-right w (g .memory)
     and sound-right w (g .sound)

@@ -1,21 +1,18 @@
 -- The table of answers: the first row that applies, tables whose rows agree, and steps that no row refuses.
 use mathlib.Core.Path.{_≡_, refl, sym, ap}
-use mathlib.Core.Bool.{Bool, true, false, not}
+use mathlib.Core.Bool.{false}
 use mathlib.Core.List.{List, [], _∷_, _++_}
 use Prim.Native.Nat.{ℕ}
-use lib.Dec.{ltb}
-use Rattle.lists.proofs.Tests.{cases, clash, never}
+use Rattle.lists.proofs.Tests.{cases, never}
 use Rattle.rules.specs.declared.answer.Errno.{Errno}
-use Rattle.rules.specs.declared.answer.Errno.the-variants.{ENXIO, EBADF, ESRCH, EINVAL, EFAULT}
 use Rattle.rules.specs.declared.answer.Verdict.{Verdict}
 use Rattle.rules.specs.declared.answer.Verdict.the-variants.{Refuse, Pass}
 use Rattle.rules.specs.declared.answer.Answer.the-variants.{Count, Refused}
 use Rattle.rules.specs.declared.event.Event.{Event}
-use Rattle.rules.specs.declared.event.Event.the-variants.{Call as CallEvent, Store, Clock, Interrupt, Query}
-use Rattle.tables.specs.Tables.{World, threadOf, wordAt, aligned, outside}
-use Rattle.rules.specs.Answers.{Row, _when_, first, outcome, judged}
-use Rattle.rules.specs.Calls.{wrongMemory, brokenTables, noProcess, noThread, caller, callRows, callRefusals}
-use Rattle.rules.specs.Events.{refusals, effect, step}
+use Rattle.tables.specs.Tables.{World}
+use Rattle.rules.specs.Answers.{Row, first, outcome, judged}
+use Rattle.rules.specs.Calls.{firstRows}
+use Rattle.rules.specs.Events.{ownRows, isQuery, refusals, effect, step}
 use Rattle.rules.specs.Claims.{FirstOf, here, later, Clear}
 
 pub not-pass {ℓ} : {P : Type ℓ} {x : Errno} → Refuse x ≡ Pass → P
@@ -51,31 +48,10 @@ pub passed-before : (rs qs : List Row) → first rs ≡ Pass → first (rs ++ qs
 passed-before [] qs h = refl
 passed-before (r ∷ rs) qs h = cases (r .applies) (λ e. not-pass {x = r .errno} (cc)) (λ e. cc (passed-before rs qs (cc)))
 
--- The first two rows of every event but the panel query, and the rows behind them.
-abbrev pub firstRows : World → List Row
-firstRows w = ENXIO when wrongMemory w ∷ EBADF when brokenTables w ∷ []
-
-abbrev pub ownRows : Event → World → List Row
-ownRows (CallEvent c) w = callRows c (threadOf (w .state) (caller c) .waiting) (w .state .clock) (w .state .count) (wordAt w (c .process) (c .uaddr))
-ownRows (Store p a v) w = ESRCH when noProcess p ∷ EINVAL when not (aligned a) ∷ EFAULT when outside a ∷ []
-ownRows (Clock now) w = EINVAL when ltb now (w .state .clock) ∷ []
-ownRows (Interrupt p i) w = ESRCH when noThread p i ∷ []
-ownRows (Query p) w = []
-
-abbrev pub isQuery : Event → Bool
-isQuery (CallEvent c) = false
-isQuery (Store p a v) = false
-isQuery (Clock now) = false
-isQuery (Interrupt p i) = false
-isQuery (Query p) = true
-
+-- the rows of an event that is no panel query
 pub all-rows : (e : Event) (w : World) → isQuery e ≡ false → refusals e w ≡ firstRows w ++ ownRows e w
-unfolding refusals callRefusals
-all-rows (CallEvent c) w h = refl
-all-rows (Store p a v) w h = refl
-all-rows (Clock now) w h = refl
-all-rows (Interrupt p i) w h = refl
-all-rows (Query p) w h = clash true refl h
+unfolding refusals
+all-rows e w h = rw h
 
 -- The same errors in the same order, and each test the same where no earlier one applies.
 abbrev pub Same : List Row → List Row → Type 0

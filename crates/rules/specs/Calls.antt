@@ -27,6 +27,10 @@ wrongMemory w = not (eqb (length (w .words)) memoryWords)
 abbrev pub brokenTables : World → Bool
 brokenTables w = not (tablesOk (w .state))
 
+-- the first two rows of the table of answers, which are tested of every event but the panel query
+abbrev pub firstRows : World → List Row
+firstRows w = ENXIO when wrongMemory w ∷ EBADF when brokenTables w ∷ []
+
 -- "the process or index is above 7"
 abbrev pub noProcess : ℕ → Bool
 noProcess p = leb processes p
@@ -100,13 +104,6 @@ callRows c waits now count word =
     ∷ ETIMEDOUT when late k c now
     ∷ ENOMEM when full count
     ∷ []
-
--- The table of answers.
-unfoldable pub callRefusals : Call → World → List Row
-callRefusals c w =
-    ENXIO when wrongMemory w
-    ∷ EBADF when brokenTables w
-    ∷ callRows c (threadOf (w .state) (caller c) .waiting) (w .state .clock) (w .state .count) (wordAt w (c .process) (c .uaddr))
 
 -- "Mask is all ones", of a WAIT_BITSET "mask val3"
 abbrev pub maskOf : Command → Call → ℕ

@@ -1,6 +1,6 @@
 -- "Other events", and what any event is answered and leaves.
-use mathlib.Core.Bool.{Bool, not, cond, _||_}
-use mathlib.Core.List.{List, [], _∷_}
+use mathlib.Core.Bool.{Bool, true, false, not, cond, _||_}
+use mathlib.Core.List.{List, [], _∷_, _++_}
 use Prim.Native.Nat.{ℕ, suc, zero, _+_, _*_, _^_}
 use lib.ListN.{length}
 use lib.Dec.{ltb}
@@ -10,34 +10,38 @@ use Rattle.tables.specs.declared.State.{State}
 use Rattle.tables.specs.declared.LastAnswer.the-variants.{TimedOut, Interrupted}
 use Rattle.rules.specs.declared.event.Event.{Event}
 use Rattle.rules.specs.declared.event.Event.the-variants.{Call, Store, Clock, Interrupt, Query}
-use Rattle.rules.specs.declared.answer.Errno.the-variants.{ENXIO, EBADF, ESRCH, EINVAL, EFAULT}
+use Rattle.rules.specs.declared.answer.Errno.the-variants.{ESRCH, EINVAL, EFAULT}
 use Rattle.rules.specs.declared.answer.Panel.{Panel}
 use Rattle.rules.specs.declared.answer.Answer.the-variants.{Count, Waiting}
 use Rattle.tables.specs.Sizes.{threadsPerProcess}
-use Rattle.tables.specs.Tables.{outside, World, expiredSleepers, threadNumber, threadOf, aligned, tablesOk, endSleeps, writeWord, withClock, withState}
+use Rattle.tables.specs.Tables.{outside, World, expiredSleepers, threadNumber, threadOf, wordAt, aligned, tablesOk, endSleeps, writeWord, withClock, withState}
 use Rattle.rules.specs.Answers.{Row, _when_, first, Outcome, outcome, judged}
 use Rattle.rules.specs.Commands.{commandOf}
-use Rattle.rules.specs.Calls.{wrongMemory, brokenTables, noProcess, noThread, callRefusals, callEffect}
+use Rattle.rules.specs.Calls.{firstRows, noProcess, noThread, caller, callRows, callEffect}
+
+-- The rows behind the first two, in the order of each event.
+abbrev pub ownRows : Event → World → List Row
+ownRows (Call c) w =
+    callRows c (threadOf (w .state) (caller c) .waiting) (w .state .clock) (w .state .count) (wordAt w (c .process) (c .uaddr))
+-- "-6, -9, -3, -22 (not aligned), -14"
+ownRows (Store p a v) w = ESRCH when noProcess p ∷ EINVAL when not (aligned a) ∷ EFAULT when outside a ∷ []
+-- "-6, -9, -22 if earlier than the clock"
+ownRows (Clock now) w = EINVAL when ltb now (w .state .clock) ∷ []
+-- "-6, -9, -3"
+ownRows (Interrupt p i) w = ESRCH when noThread p i ∷ []
+ownRows (Query p) w = []
+
+-- a panel query, which is always answered
+abbrev pub isQuery : Event → Bool
+isQuery (Call c) = false
+isQuery (Store p a v) = false
+isQuery (Clock now) = false
+isQuery (Interrupt p i) = false
+isQuery (Query p) = true
 
 -- What each event may be refused with, in order.
 unfoldable pub refusals : Event → World → List Row
-refusals (Call c) w = callRefusals c w
--- "-6, -9, -3, -22 (not aligned), -14"
-refusals (Store p a v) w =
-    ENXIO when wrongMemory w
-    ∷ EBADF when brokenTables w
-    ∷ ESRCH when noProcess p
-    ∷ EINVAL when not (aligned a)
-    ∷ EFAULT when outside a
-    ∷ []
--- "-6, -9, -22 if earlier than the clock"
-refusals (Clock now) w =
-    ENXIO when wrongMemory w ∷ EBADF when brokenTables w ∷ EINVAL when ltb now (w .state .clock) ∷ []
--- "-6, -9, -3"
-refusals (Interrupt p i) w =
-    ENXIO when wrongMemory w ∷ EBADF when brokenTables w ∷ ESRCH when noThread p i ∷ []
--- it is always answered
-refusals (Query p) w = []
+refusals e w = cond (isQuery e) [] (firstRows w ++ ownRows e w)
 
 -- "the clock is set, every sleeper .. ends with -110, and the answer is how many"
 unfoldable pub clockEffect : ℕ → World → Outcome

@@ -1,6 +1,7 @@
 -- The bytes of the fresh tables: no entry in the list, and zeros.
 use mathlib.Core.Path.{_≡_, refl, sym, ap, _∙_}
 use mathlib.Core.Bool.{cond, _&&_}
+use mathlib.Core.List.{flatten}
 use Prim.Native.Nat.{ℕ, _<_}
 use lib.ListN.{length, getD}
 use lib.Dec.{leb, ltb}
@@ -14,11 +15,11 @@ abbrev laid : ℕ → ℕ
 laid i = cond (leb listAt i && ltb i waitingAt) noEntry 0
 
 all-laid : tablesBytes fresh ≡ tabulate tablesSize laid
-unfolding tablesBytes fresh
+unfolding tablesBytes fresh flatten
 all-laid = refl
 
 pub fresh-size : length (tablesBytes fresh) ≡ tablesSize
-unfolding tablesBytes fresh
+unfolding tablesBytes fresh flatten
 fresh-size = refl
 
 pub fresh-byte : (i : ℕ) → i < tablesSize → laid i ≡ getD (tablesBytes fresh) i 0

@@ -19,9 +19,9 @@ use Rattle.rules.specs.declared.answer.Answer.{Answer}
 use Rattle.rules.specs.declared.answer.Answer.the-variants.{Count, Refused}
 use Rattle.rules.specs.Answers.{Row, first, Outcome, isRefused, answerNumbers, asleepNumber}
 use Rattle.rules.specs.Commands.{commandOf}
-use Rattle.rules.specs.Calls.{callEffect}
-use Rattle.rules.specs.Events.{refusals, effect, step}
-use Rattle.rules.proofs.Rows.{firstRows, ownRows, isQuery, all-rows, refused-before, passed-before, pass-clear, step-refused, step-passed}
+use Rattle.rules.specs.Calls.{firstRows, callEffect}
+use Rattle.rules.specs.Events.{ownRows, isQuery, refusals, effect, step}
+use Rattle.rules.proofs.Rows.{all-rows, refused-before, passed-before, pass-clear, step-refused, step-passed}
 use Rattle.rules.proofs.Refused.{granted}
 use Rattle.tables.specs.Tables.{world}
 use Rattle.layout.specs.Layout.{tablesBytes, stateAt, wordsAt, wordsBytes}

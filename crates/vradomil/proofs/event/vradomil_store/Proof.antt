@@ -14,8 +14,8 @@ use Rattle.tables.specs.Sizes.{processes, bytesPerProcess, memoryWords}
 use Rattle.tables.specs.Tables.{aligned, writeWord}
 use Rattle.rules.specs.Answers.{first}
 use Rattle.rules.specs.Calls.{noProcess}
-use Rattle.rules.specs.Events.{refusals, effect}
-use Rattle.rules.proofs.Rows.{pass-clear, ownRows}
+use Rattle.rules.specs.Events.{ownRows, refusals, effect}
+use Rattle.rules.proofs.Rows.{pass-clear}
 use Rattle.layout.specs.Layout.{wordsAt, wordsBytes}
 use Rattle.vradomil.specs.Host.{seen}
 use Rattle.vradomil.proofs.Memory.{word-written}
