@@ -117,10 +117,10 @@ impl Thread {
         self.with_sleep(false, 0, 0, false, 0).with_last(last)
     }
 
-    fn moved_to(mut self, uaddr: u32) -> Self
-        ensures { λ r. ⌜ r ≡ movedTo uaddr self ⌝ }
+    fn moved_to(mut self, to: u32) -> Self
+        ensures { λ r. ⌜ r ≡ movedTo to self ⌝ }
     {
-        self.uaddr = uaddr;
+        self.uaddr = to;
         self
     }
 
