@@ -3,9 +3,7 @@ use mathlib.Core.Path.{_≡_, refl, sym, ap, subst, _∙_}
 use mathlib.Core.Bool.{true, false}
 use mathlib.Core.List.{List, [], _∷_, map}
 use Prim.Native.Nat.{ℕ}
-use native.Mathlib.Omega.{arith}
 use lib.IntN.{ℤ, pos}
-use lib.ListN.{length, getD}
 use Rattle.lists.proofs.Tests.{cases, clash}
 use Rattle.rules.specs.declared.event.Event.{Event}
 use Rattle.rules.specs.declared.event.Event.the-variants.{Store, Clock, Interrupt, Query}
@@ -13,7 +11,7 @@ use Rattle.rules.specs.declared.answer.Answer.{Answer}
 use Rattle.rules.specs.declared.answer.Answer.the-variants.{Asleep, Count, Refused, Waiting}
 use Rattle.tables.specs.Tables.{World, writeWord}
 use Rattle.tables.proofs.Sound.{sound-tables}
-use Rattle.rules.specs.Answers.{isRefused, answerNumbers}
+use Rattle.rules.specs.Answers.{isRefused}
 use Rattle.rules.specs.Events.{refusals, clockEffect, panel, effect, step}
 use Rattle.rules.specs.History.{belongs, final, answers, entriesOf}
 use Rattle.rules.proofs.Rows.{step-keeps}
@@ -22,9 +20,9 @@ use Rattle.rules.proofs.Theorems.{refusal-leaves-all}
 use Rattle.kernel.proofs.Events.{interrupt-words}
 use Rattle.layout.specs.Layout.{tablesBytes, wordsBytes, wordsAt}
 use Rattle.changes.proofs.Faithful.{tables-back}
-use Rattle.vradomil.specs.Host.{seen, tablesLeft, wordsLeft, packed}
+use Rattle.vradomil.specs.Host.{seen, tablesLeft, wordsLeft, packed, hostNumber, EventFits}
 use Rattle.vradomil.proofs.Theorems.{words-stand}
-use Rattle.hosting.specs.Hosts.{Hosted, called, stored, clocked, interrupted, queried, EventFits, HostRuns, over, next, hostNumber}
+use Rattle.hosting.specs.Hosts.{Hosted, called, stored, clocked, interrupted, queried, HostRuns, over, next}
 use Rattle.hosting.proofs.Fitting.{FitsWorld, step-fits}
 
 pub record Stand (b m : List ℕ) (w : World) : Type 0 where
@@ -78,38 +76,31 @@ shown : (p : ℕ) (w : World) → step (Query p) w .answer ≡ Waiting (panel p 
 unfolding step refusals effect
 shown p w = refl
 
--- the number of an answer
-one-number : (a : Answer) (r : ℤ) → r ∷ [] ≡ answerNumbers a → r ≡ hostNumber a
-one-number Asleep r h = ap (λ l. getD l 0 (pos 0)) h
-one-number (Count n) r h = ap (λ l. getD l 0 (pos 0)) h
-one-number (Refused x) r h = ap (λ l. getD l 0 (pos 0)) h
-one-number (Waiting v) r h = let e : _≡_ {A = ℕ} 1 3 = ap length h in absurd (omega (arith, e))
-
 record Stepped (e : Event) (w : World) (r : ℤ) (b m : List ℕ) : Type 0 where
   stand : Stand b m (step e w .world)
   number : r ≡ hostNumber (step e w .answer)
 
 -- an event whose one number and bytes are those of its step
 by-left : (e : Event) (b m b1 m1 : List ℕ) (w : World) (r : ℤ) → Stand b m w → EventFits e → b1 ≡ tablesBytes (step e w .world .state)
-    → m1 ≡ wordsBytes (step e w .world .words) → r ∷ [] ≡ answerNumbers (step e (seen b m) .answer) → Stepped e w r b1 m1
+    → m1 ≡ wordsBytes (step e w .world .words) → r ≡ hostNumber (step e (seen b m) .answer) → Stepped e w r b1 m1
 by-left e b m b1 m1 w r s f tables words n =
     record {
       stand = record { tables = tables; words = words; valid = step-valid e w (s .valid); fits = step-fits e w f (s .fits) };
-      number = one-number (step e w .answer) r (n ∙ ap (λ v. answerNumbers (step e v .answer)) (seen-is b m w s));
+      number = n ∙ ap (λ v. hostNumber (step e v .answer)) (seen-is b m w s);
     }
 
-stepped : (e : Event) (b m b1 m1 : List ℕ) (w : World) (r : ℤ) → Stand b m w → EventFits e → Hosted e b m r b1 m1 → Stepped e w r b1 m1
-stepped e b m b1 m1 w r s f (called h) = by-left e b m b1 m1 w r s f (h .tables ∙ left-tables b m w s e) (h .words ∙ left-words b m w s e) (h .number)
-stepped e b m b1 m1 w r s f (stored {p} {a} {v} h) =
-    by-left e b m b1 m1 w r s f (s .tables ∙ ap tablesBytes (sym (store-state p a v w))) (h .bytes ∙ left-words b m w s e) (h .number)
-stepped e b m b1 m1 w r s f (clocked {now} h) =
-    by-left e b m b1 m1 w r s f (h .bytes ∙ left-tables b m w s e) (s .words ∙ ap wordsBytes (sym (clock-words now w))) (h .number)
-stepped e b m b1 m1 w r s f (interrupted {p} {i} h) =
-    by-left e b m b1 m1 w r s f (h .bytes ∙ left-tables b m w s e) (s .words ∙ ap wordsBytes (sym (ended-words p i w))) (h .number)
-stepped (Query p) b m b1 m1 w r s f (queried h) =
+stepped : (e : Event) (b m b1 m1 : List ℕ) (w : World) (r : ℤ) → Stand b m w → Hosted e b m r b1 m1 → Stepped e w r b1 m1
+stepped e b m b1 m1 w r s (called h) = by-left e b m b1 m1 w r s (h .fits) (h .tables ∙ left-tables b m w s e) (h .words ∙ left-words b m w s e) (h .number)
+stepped e b m b1 m1 w r s (stored {p} {a} {v} h) =
+    by-left e b m b1 m1 w r s (h .fits) (s .tables ∙ ap tablesBytes (sym (store-state p a v w))) (h .bytes ∙ left-words b m w s e) (h .number)
+stepped e b m b1 m1 w r s (clocked {now} h) =
+    by-left e b m b1 m1 w r s (h .fits) (h .bytes ∙ left-tables b m w s e) (s .words ∙ ap wordsBytes (sym (clock-words now w))) (h .number)
+stepped e b m b1 m1 w r s (interrupted {p} {i} h) =
+    by-left e b m b1 m1 w r s (h .fits) (h .bytes ∙ left-tables b m w s e) (s .words ∙ ap wordsBytes (sym (ended-words p i w))) (h .number)
+stepped (Query p) b m b1 m1 w r s (queried h) =
     record {
       stand = subst (Stand b m) (sym (asked p w)) s;
-      number = ap pos (h ∙ ap (λ (v : World). packed (panel p (v .state))) (seen-is b m w s)) ∙ ap hostNumber (sym (shown p w));
+      number = ap pos (h .number ∙ ap (λ (v : World). packed (panel p (v .state))) (seen-is b m w s)) ∙ ap hostNumber (sym (shown p w));
     }
 
 -- over a whole history
@@ -119,8 +110,8 @@ pub record Ran (h : List Event) (w : World) (rs : List ℤ) (b m : List ℕ) : T
 
 pub ran : {h : List Event} {b m b2 m2 : List ℕ} {rs : List ℤ} (w : World) → HostRuns h b m rs b2 m2 → Stand b m w → Ran h w rs b2 m2
 ran w over s = record { stand = s; numbers = refl }
-ran w (next {e = e} f h run) s =
-    let one = stepped e _ _ _ _ w _ s f h in
+ran w (next {e = e} h run) s =
+    let one = stepped e _ _ _ _ w _ s h in
     let rest = ran (step e w .world) run (one .stand) in
     record { stand = rest .stand; numbers = λ j. one .number j ∷ rest .numbers j }
 

@@ -18,9 +18,9 @@ use Rattle.lists.specs.LittleEndian.{Bytes}
 use Rattle.layout.specs.Layout.{tablesBytes, wordsAt, memorySize}
 use Rattle.layout.proofs.Exact.{words-exact}
 use Rattle.changes.specs.Change.{Fits}
-use Rattle.vradomil.specs.Host.{seen}
+use Rattle.vradomil.specs.Host.{seen, hostNumber}
 use Rattle.vradomil.proofs.Memory.{words-length, word-fits}
-use Rattle.hosting.specs.Hosts.{HostRuns, hostNumber}
+use Rattle.hosting.specs.Hosts.{HostRuns}
 use Rattle.hosting.proofs.Fitting.{running-fits}
 use Rattle.hosting.proofs.Hosting.{Stand, seen-is, ran, entries-map}
 
