@@ -26,123 +26,96 @@ of-event {b = b} {m} {b1} {m1} is same h = subst₂ (λ x y. Hosted x b m y b1 m
 enum-known-e : tie.Need-enum-known-e
 enum-known-e c = search needs
 
--- src/lib.rt:16:17
 vradomil-call-requires : tie.Need-vradomil-call-requires
 vradomil-call-requires c κs = search needs
 
--- src/lib.rt:17:13
 cast-result : tie.Need-cast-result
 cast-result c = wide (c .before .before .before .before .vradomil-call .result) (c .before .before .before .before .vradomil-call .ok)
 
--- src/lib.rt:20:13
 enum-known-e-2 : tie.Need-enum-known-e-2
 enum-known-e-2 c = search needs
 
--- src/lib.rt:24:17
 vradomil-store-requires : tie.Need-vradomil-store-requires
 vradomil-store-requires c κs = search needs
 
--- src/lib.rt:25:13
 cast-result-2 : tie.Need-cast-result-2
 cast-result-2 c = wide (c .before .before .vradomil-store .result) (c .before .before .vradomil-store .ok)
 
--- src/lib.rt:27:24
 enum-known-e-3 : tie.Need-enum-known-e-3
 enum-known-e-3 c = search needs
 
--- src/lib.rt:28:17
 vradomil-clock-requires : tie.Need-vradomil-clock-requires
 vradomil-clock-requires c κs = search needs
 
--- src/lib.rt:29:13
 cast-result-3 : tie.Need-cast-result-3
 cast-result-3 c = wide (c .before .before .vradomil-clock .result) (c .before .before .vradomil-clock .ok)
 
--- src/lib.rt:31:28
 enum-known-e-4 : tie.Need-enum-known-e-4
 enum-known-e-4 c = search needs
 
--- src/lib.rt:32:17
 vradomil-interrupt-requires : tie.Need-vradomil-interrupt-requires
 vradomil-interrupt-requires c κs = search needs
 
--- src/lib.rt:33:13
 cast-result-4 : tie.Need-cast-result-4
 cast-result-4 c = wide (c .before .before .vradomil-interrupt .result) (c .before .before .vradomil-interrupt .ok)
 
--- src/lib.rt:35:24
 enum-known-e-5 : tie.Need-enum-known-e-5
 enum-known-e-5 c = search needs
 
--- src/lib.rt:36:17
 vradomil-query-requires : tie.Need-vradomil-query-requires
 vradomil-query-requires c κs = search needs
 
--- src/lib.rt:37:13
 cast-result-5 : tie.Need-cast-result-5
 cast-result-5 c = search needs
 
--- src/lib.rt:11:1
 same-length : tie.Need-same-length
 same-length c = search needs
 
--- src/lib.rt:11:1
 same-length-2 : tie.Need-same-length-2
 same-length-2 c = search needs
 
--- src/lib.rt:11:1
 returns : tie.Need-returns
 returns c =
     let v = c .before .before .before .before in
-    of-event (v .before .before .before .before .e .given .1) (back (v .vradomil-call .result) (v .vradomil-call .ok)) (called (v .vradomil-call .ensures))
+    let k = v .before .before .before .before .e .given in
+    of-event (k .1) (back (v .vradomil-call .result) (v .vradomil-call .ok)) (called {c = k .0 .0} (v .vradomil-call .ensures))
 
--- src/lib.rt:11:1
 same-length-3 : tie.Need-same-length-3
 same-length-3 c = search needs
 
--- src/lib.rt:11:1
 same-length-4 : tie.Need-same-length-4
 same-length-4 c = search needs
 
--- src/lib.rt:11:1
 returns-2 : tie.Need-returns-2
 returns-2 c =
     let v = c .before .before in
     of-event (v .before .before .before .before .e2 .given .1) (back (v .vradomil-store .result) (v .vradomil-store .ok)) (stored (v .vradomil-store .ensures))
 
--- src/lib.rt:11:1
 same-length-5 : tie.Need-same-length-5
 same-length-5 c = search needs
 
--- src/lib.rt:11:1
 same-length-6 : tie.Need-same-length-6
 same-length-6 c = search needs
 
--- src/lib.rt:11:1
 returns-3 : tie.Need-returns-3
 returns-3 c =
     let v = c .before .before in
     of-event (v .before .before .before .before .e3 .given .1) (back (v .vradomil-clock .result) (v .vradomil-clock .ok)) (clocked (v .vradomil-clock .ensures))
 
--- src/lib.rt:11:1
 same-length-7 : tie.Need-same-length-7
 same-length-7 c = search needs
 
--- src/lib.rt:11:1
 same-length-8 : tie.Need-same-length-8
 same-length-8 c = search needs
 
--- src/lib.rt:11:1
 returns-4 : tie.Need-returns-4
 returns-4 c =
     let v = c .before .before in
     of-event (v .before .before .before .before .e4 .given .1) (back (v .vradomil-interrupt .result) (v .vradomil-interrupt .ok)) (interrupted (v .vradomil-interrupt .ensures))
 
--- src/lib.rt:11:1
 same-length-9 : tie.Need-same-length-9
 same-length-9 c = search needs
 
--- src/lib.rt:11:1
 returns-5 : tie.Need-returns-5
 returns-5 c = of-event (c .before .before .before .e5 .given .1) (toZ-pos w64 (search needs)) (queried (c .vradomil-query .ensures))
 
