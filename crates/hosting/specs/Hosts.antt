@@ -8,7 +8,7 @@ use Rattle.rules.specs.declared.event.Event.{Event}
 use Rattle.rules.specs.declared.event.Event.the-variants.{Call as CallEvent, Store, Clock, Interrupt, Query}
 use Rattle.vradomil.specs.Host.{EventFits, Calls, ChangesWords, ChangesTables, Shows}
 
--- What one call of the library answers and leaves. A store is lent the tables to read, a clock event and an interrupt the words, and a panel
+-- What one call of the library answers and leaves, as `pass` (src/lib.rt) ensures it of the code. A store is lent the tables to read, a clock event and an interrupt the words, and a panel
 -- query the tables to read and no words: so these stay.
 pub data Hosted : Event → List ℕ → List ℕ → ℤ → List ℕ → List ℕ → Type 0 where
   called : {c : Call} {b m bAfter mAfter : List ℕ} {r : ℤ} → Calls c b m r bAfter mAfter → Hosted (CallEvent c) b m r bAfter mAfter

@@ -7,7 +7,7 @@ use vradomil::event::vradomil_interrupt;
 use vradomil::event::vradomil_query;
 use vradomil::event::vradomil_store;
 
-// An event as a host passes it to its entry point. All that the theorems take for known of one event is what this ensures.
+// An event as a host passes it to its entry point. The theorems take for known of an event what this ensures, and no more.
 pub fn pass(tables: &mut [u8], words: &mut [u8], e: Event) -> i64
     ensures { λ r. ⌜ Hosted e (now (tables .entry)) (now (words .entry)) r (now (tables .exit)) (now (words .exit)) ⌝ }
 {

@@ -1,6 +1,6 @@
 -- An event's number and bytes are the rules', by its verdict: refused, or let through.
 use mathlib.Core.Path.{_≡_, sym, ap, subst, subst₂, _∙_}
-use mathlib.Core.Bool.{false}
+use mathlib.Core.Bool.{false, cond}
 use mathlib.Core.List.{List, [], _∷_, _++_}
 use Prim.Native.Nat.{ℕ, _≤_}
 use lib.IntN.{ℤ, pos}
@@ -68,10 +68,10 @@ module _ (e : Event) (b m : List ℕ) (v : Verdict) (l : BuffersJudged b m v) (s
 
 -- bytes that a change leaves
 tables-changed : (o : Outcome) (b : List ℕ) → isRefused (o .answer) ≡ false → tablesLeft o b ≡ tablesBytes (o .world .state)
-tables-changed o b h = rw h
+tables-changed o b h = ap (λ r. cond r b (tablesBytes (o .world .state))) h
 
 words-changed : (o : Outcome) (m : List ℕ) → isRefused (o .answer) ≡ false → wordsLeft o m ≡ wordsBytes (o .world .words)
-words-changed o m h = rw h
+words-changed o m h = ap (λ r. cond r m (wordsBytes (o .world .words))) h
 
 module _ (e : Event) (b m : List ℕ) (r : ℤ) where
   module _ (x : Errno) (h : first (refusals e (seen b m)) ≡ Refuse x) (n : r ≡ hostNumber (Refused x)) where

@@ -1,7 +1,7 @@
--- What is proved of the bytes that a host lends, beside what each entry point ensures (specs/Host.antt): bytes of tables and of words stand
--- for these tables and words, so the next event sees what this one left. Tables and words that code holds fit their fields by their types.
-use mathlib.Core.Path.{_≡_, refl, sym, _∙_}
-use mathlib.Core.Bool.{true, not, cond, _||_}
+-- What is proved of the entry points, beside what each ensures (specs/Host.antt): what a host's bytes stand for, what its numbers mean, which
+-- events it can pass, and that what an entry point ensures leaves nothing open. crates/hosting has the theorems of whole histories.
+use mathlib.Core.Path.{_≡_, refl, sym, ap, _∙_}
+use mathlib.Core.Bool.{Bool, true, false, not, cond, _||_}
 use mathlib.Core.List.{List, [], _∷_, map}
 use mathlib.Core.Logic.{_⊎_, inl, inr, _↔_}
 use Prim.Native.Nat.{ℕ, _/_, _%_, _^_, _<_}
@@ -9,6 +9,7 @@ use native.Mathlib.Omega.{arith}
 use lib.Count.{ones, trailingZeros, ones-le, trailing-le}
 use lib.ListN.{length, getD}
 use lib.IntN.{ℤ, pos, negℤ}
+use lib.Dec.{eqb}
 use borrow.Author.Tests.{eq-eqb, ne-eqb}
 use Rattle.lists.proofs.Tests.{cases}
 use Rattle.tables.specs.declared.State.{State}
@@ -31,6 +32,8 @@ use Rattle.changes.specs.Change.{Fits}
 use Rattle.changes.proofs.Faithful.{tables-back}
 use Rattle.vradomil.proofs.Memory.{words-back}
 
+-- Bytes of tables and of words stand for these tables and words, so the next event sees what this one left. Tables and words that code holds
+-- fit their fields by their types.
 pub tables-stand : (s : State) → tablesOk s ≡ true → Fits s → tablesAt (tablesBytes s) ≡ s
 tables-stand s ok fit = tables-back s (tablesBytes s) (record { bytes = refl; sound = ok }) fit
 
@@ -71,23 +74,20 @@ panel-unpacks p s = parts (cond (noProcess p || not (tablesOk s)) 0 (waitingSet 
     small = cases (noProcess p || not (tablesOk s)) (λ e. rw e (omega arith)) (λ e. rw e (bits-small threadsPerProcess _))
 
 -- An event fits exactly if each argument does: 8 bits for process, index and flag, 64 for a timeout and a time, 32 for all else.
-pub fits-exactly : (c : Call) (p i a v now : ℕ)
-    → (EventFits (CallEvent c) ↔ ((c .process < 256) × (c .index < 256) × (c .op < 4294967296) × (c .uaddr < 4294967296) × (c .val < 4294967296)
-    × (c .flag < 256) × (c .timeout < 18446744073709551616) × (c .uaddr2 < 4294967296) × (c .val3 < 4294967296)))
-    × (EventFits (Store p a v) ↔ ((p < 256) × (a < 4294967296) × (v < 4294967296)))
+pub call-fits-exactly : (c : Call)
+    → EventFits (CallEvent c) ↔ ((c .process < 256) × (c .index < 256) × (c .op < 4294967296) × (c .uaddr < 4294967296) × (c .val < 4294967296)
+    × (c .flag < 256) × (c .timeout < 18446744073709551616) × (c .uaddr2 < 4294967296) × (c .val3 < 4294967296))
+call-fits-exactly c = (
+  λ f. (f .process, f .index, f .op, f .uaddr, f .val, f .flag, f .timeout, f .uaddr2, f .val3),
+  λ f. record { process = f .0; index = f .1; op = f .2; uaddr = f .3; val = f .4; flag = f .5; timeout = f .6; uaddr2 = f .7; val3 = f .8 },
+)
+
+pub fits-exactly : (p i a v now : ℕ)
+    → (EventFits (Store p a v) ↔ ((p < 256) × (a < 4294967296) × (v < 4294967296)))
     × (EventFits (Clock now) ↔ (now < 18446744073709551616))
     × (EventFits (Interrupt p i) ↔ ((p < 256) × (i < 256)))
     × (EventFits (Query p) ↔ (p < 256))
-fits-exactly c p i a v now = (
-  (
-    λ f. (f .process, f .index, f .op, f .uaddr, f .val, f .flag, f .timeout, f .uaddr2, f .val3),
-    λ f. record { process = f .0; index = f .1; op = f .2; uaddr = f .3; val = f .4; flag = f .5; timeout = f .6; uaddr2 = f .7; val3 = f .8 },
-  ),
-  (λ f. f, λ f. f),
-  (λ f. f, λ f. f),
-  (λ f. f, λ f. f),
-  (λ f. f, λ f. f),
-)
+fits-exactly p i a v now = ((λ f. f, λ f. f), (λ f. f, λ f. f), (λ f. f, λ f. f), (λ f. f, λ f. f))
 
 -- What an entry point ensures leaves nothing open: the number and every byte that it may change are fixed by the event and the bytes that came.
 pub call-fixed : {c : Call} {b m b1 m1 b2 m2 : List ℕ} {r s : ℤ} → Calls c b m r b1 m1 → Calls c b m s b2 m2 → (r ≡ s) × (b1 ≡ b2) × (m1 ≡ m2)
@@ -105,7 +105,7 @@ query-fixed f g = f .number ∙ sym (g .number)
 -- vradomil_fresh: 1,296 bytes become those of the fresh tables, and the answer is 0; bytes of another length stay, and the answer is -9.
 pub fresh-laid : {b after : List ℕ} {r : ℤ} → Initialised b r after
     → (length b ≡ 1296 → (r ≡ pos 0) × (after ≡ tablesBytes fresh)) × ((length b ≡ 1296 → ⊥) → (r ≡ negℤ (pos 9)) × (after ≡ b))
-fresh-laid {b} f = (
-  λ e. let is = eq-eqb (length b) tablesSize e in (f .number ∙ rw is, f .bytes ∙ rw is),
-  λ e. let is = ne-eqb (length b) tablesSize e in (f .number ∙ rw is, f .bytes ∙ rw is),
-)
+fresh-laid {b} {after} {r} f = (λ e. laid true (eq-eqb (length b) tablesSize e), λ e. laid false (ne-eqb (length b) tablesSize e))
+  where
+    laid : (x : Bool) → eqb (length b) tablesSize ≡ x → (r ≡ hostNumber (cond x (Count 0) (Refused EBADF))) × (after ≡ cond x (tablesBytes fresh) b)
+    laid x is = (f .number ∙ ap (λ y. hostNumber (cond y (Count 0) (Refused EBADF))) is, f .bytes ∙ ap (λ y. cond y (tablesBytes fresh) b) is)
