@@ -4,7 +4,7 @@ use mathlib.Core.Bool.{Bool, true, false, cond}
 use mathlib.Core.List.{List}
 use Prim.Native.Nat.{ℕ, _-_, _%_, _^_, _<_}
 use native.Mathlib.Omega.{arith}
-use lib.ListN.{length, set}
+use lib.ListN.{length, getD, set}
 use lib.Seq.{getD-set-same, getD-set-other, set-out}
 use lib.Bits.{and-le-l, or-lt, xor-lt}
 use lib.Dec.{eqb, leb, ltb}
@@ -17,7 +17,7 @@ use Rattle.rules.specs.declared.event.Command.{Command}
 use Rattle.rules.specs.declared.event.Call.{Call}
 use Rattle.rules.specs.declared.event.Event.{Event}
 use Rattle.rules.specs.declared.event.Event.the-variants.{Call as CallEvent, Store, Clock, Interrupt, Query}
-use Rattle.tables.specs.Sizes.{threads, matchAny, wordBytes}
+use Rattle.tables.specs.Sizes.{threads, wordLimit, matchAny, wordBytes}
 use Rattle.tables.specs.Tables.{World, threadNumber, freshThread, ended, threadOf, asleepAt, endSleeps, moveSleeps, fallAsleep, writeWord, wordAt}
 use Rattle.rules.specs.Commands.{commandOf, uses}
 use Rattle.rules.specs.WakeOp.{opField, opArg, opCode, operand, newWord}
@@ -28,8 +28,13 @@ use Rattle.rules.proofs.Commands.{by-command}
 use Rattle.rules.proofs.Rows.{step-keeps}
 use Rattle.rules.proofs.Theorems.{fate}
 use Rattle.changes.specs.Change.{FitsThread, Fits}
-use Rattle.hosting.specs.Hosts.{CallFits, EventFits, WordsFit}
+use Rattle.vradomil.specs.Host.{CallFits, EventFits}
 
+-- each word fits
+abbrev WordsFit : List ℕ → Type 0
+WordsFit ws = (i : ℕ) → getD ws i 0 < wordLimit
+
+-- tables and words as code can hold them
 pub record FitsWorld (w : World) : Type 0 where
   pub state : Fits (w .state)
   pub words : WordsFit (w .words)
@@ -115,7 +120,7 @@ effect-clock (Query p) w f h = h
 effect-words : (e : Event) (w : World) → EventFits e → WordsFit (w .words) → WordsFit (effect e w .world .words)
 unfolding effect writeWord clockEffect interruptEffect
 effect-words (CallEvent c) w f h = call-words (commandOf (c .op)) c w h
-effect-words (Store p a v) w f h = set-fits (w .words) _ v h f
+effect-words (Store p a v) w f h = set-fits (w .words) _ v h (f .2)
 effect-words (Clock now) w f h = h
 effect-words (Interrupt p i) w f h = cases (threadOf (w .state) (threadNumber p i) .waiting) (λ e. rw e h) (λ e. rw e h)
 effect-words (Query p) w f h = h

@@ -1,11 +1,9 @@
 -- Bytes that stand for a world: what each entry point leaves stands for what the rules leave.
 use mathlib.Core.Path.{_≡_, refl, sym, ap, subst, _∙_}
-use mathlib.Core.Bool.{true, false}
+use mathlib.Core.Bool.{Bool, true, false}
 use mathlib.Core.List.{List, [], _∷_, map}
 use Prim.Native.Nat.{ℕ}
-use native.Mathlib.Omega.{arith}
-use lib.IntN.{ℤ, pos}
-use lib.ListN.{length, getD}
+use lib.IntN.{ℤ, pos, negsuc}
 use Rattle.lists.proofs.Tests.{cases, clash}
 use Rattle.rules.specs.declared.event.Event.{Event}
 use Rattle.rules.specs.declared.event.Event.the-variants.{Store, Clock, Interrupt, Query}
@@ -13,49 +11,19 @@ use Rattle.rules.specs.declared.answer.Answer.{Answer}
 use Rattle.rules.specs.declared.answer.Answer.the-variants.{Asleep, Count, Refused, Waiting}
 use Rattle.tables.specs.Tables.{World, writeWord}
 use Rattle.tables.proofs.Sound.{sound-tables}
-use Rattle.rules.specs.Answers.{isRefused, answerNumbers}
+use Rattle.rules.specs.Answers.{isRefused}
 use Rattle.rules.specs.Events.{refusals, clockEffect, panel, effect, step}
-use Rattle.rules.specs.History.{belongs, final, answers, entriesOf}
+use Rattle.rules.specs.History.{belongs, entriesOf}
 use Rattle.rules.proofs.Rows.{step-keeps}
 use Rattle.rules.proofs.Preserved.{Valid, step-valid}
 use Rattle.rules.proofs.Theorems.{refusal-leaves-all}
 use Rattle.kernel.proofs.Events.{interrupt-words}
 use Rattle.layout.specs.Layout.{tablesBytes, wordsBytes, wordsAt}
 use Rattle.changes.proofs.Faithful.{tables-back}
-use Rattle.vradomil.specs.Host.{seen, tablesLeft, wordsLeft, packed}
+use Rattle.vradomil.specs.Host.{seen, tablesLeft, wordsLeft, hostNumber, EventFits}
 use Rattle.vradomil.proofs.Theorems.{words-stand}
-use Rattle.hosting.specs.Hosts.{Hosted, called, stored, clocked, interrupted, queried, EventFits, HostRuns, over, next, hostNumber}
+use Rattle.hosting.specs.Hosts.{Hosted, called, stored, clocked, interrupted, queried}
 use Rattle.hosting.proofs.Fitting.{FitsWorld, step-fits}
-
-pub record Stand (b m : List ℕ) (w : World) : Type 0 where
-  pub tables : b ≡ tablesBytes (w .state)
-  pub words : m ≡ wordsBytes (w .words)
-  pub valid : Valid w
-  pub fits : FitsWorld w
-
-module _ (b m : List ℕ) (w : World) (s : Stand b m w) where
-  pub seen-is : seen b m ≡ w
-  seen-is =
-      let tables = tables-back (w .state) b (record { bytes = s .tables; sound = sound-tables (w .state) (s .valid .sound) }) (s .fits .state) in
-      let words = ap wordsAt (s .words) ∙ words-stand (w .words) (s .valid .memory) (λ i l. s .fits .words i) in
-      λ j. record { state = tables j; words = words j }
-
-  -- a refusal leaves the bytes, and they still stand for the world
-  refused-world : (e : Event) (a : Answer) → step e w .answer ≡ a → isRefused a ≡ true → step e w .world ≡ w
-  refused-world e (Refused x) is h = refusal-leaves-all e w x is
-  refused-world e Asleep is h = clash false h refl
-  refused-world e (Count n) is h = clash false h refl
-  refused-world e (Waiting v) is h = clash false h refl
-
-  left-tables : (e : Event) → tablesLeft (step e (seen b m)) b ≡ tablesBytes (step e w .world .state)
-  left-tables e = ap (λ v. tablesLeft (step e v) b) seen-is ∙ cases (isRefused (step e w .answer))
-      (λ r. rw r (s .tables ∙ ap (λ (v : World). tablesBytes (v .state)) (sym (refused-world e (step e w .answer) refl r))))
-      (λ r. rw r)
-
-  left-words : (e : Event) → wordsLeft (step e (seen b m)) m ≡ wordsBytes (step e w .world .words)
-  left-words e = ap (λ v. wordsLeft (step e v) m) seen-is ∙ cases (isRefused (step e w .answer))
-      (λ r. rw r (s .words ∙ ap (λ (v : World). wordsBytes (v .words)) (sym (refused-world e (step e w .answer) refl r))))
-      (λ r. rw r)
 
 -- what an event does not touch
 store-state : (p a v : ℕ) (w : World) → step (Store p a v) w .world .state ≡ w .state
@@ -70,7 +38,7 @@ ended-words : (p i : ℕ) (w : World) → step (Interrupt p i) w .world .words �
 unfolding effect
 ended-words p i w = step-keeps (λ u. u .words ≡ w .words) (Interrupt p i) w refl (λ h. interrupt-words _ w)
 
-asked : (p : ℕ) (w : World) → step (Query p) w .world ≡ w
+pub asked : (p : ℕ) (w : World) → step (Query p) w .world ≡ w
 unfolding step refusals effect
 asked p w = refl
 
@@ -78,51 +46,72 @@ shown : (p : ℕ) (w : World) → step (Query p) w .answer ≡ Waiting (panel p 
 unfolding step refusals effect
 shown p w = refl
 
--- the number of an answer
-one-number : (a : Answer) (r : ℤ) → r ∷ [] ≡ answerNumbers a → r ≡ hostNumber a
-one-number Asleep r h = ap (λ l. getD l 0 (pos 0)) h
-one-number (Count n) r h = ap (λ l. getD l 0 (pos 0)) h
-one-number (Refused x) r h = ap (λ l. getD l 0 (pos 0)) h
-one-number (Waiting v) r h = let e : _≡_ {A = ℕ} 1 3 = ap length h in absurd (omega (arith, e))
+-- On any bytes: the number is the answer's, and a refusal leaves every byte.
+pub number-is : {e : Event} {b m b1 m1 : List ℕ} {r : ℤ} → Hosted e b m r b1 m1 → r ≡ hostNumber (step e (seen b m) .answer)
+number-is (called h) = h .number
+number-is (stored h) = h .number
+number-is (clocked h) = h .number
+number-is (interrupted h) = h .number
+number-is (queried {p} {n} {b} {m} h) = ap pos (h .number) ∙ ap hostNumber (sym (shown p (seen b m)))
 
-record Stepped (e : Event) (w : World) (r : ℤ) (b m : List ℕ) : Type 0 where
-  stand : Stand b m (step e w .world)
-  number : r ≡ hostNumber (step e w .answer)
+pub refused-stays : {e : Event} {b m b1 m1 : List ℕ} {r : ℤ} → Hosted e b m r b1 m1 → isRefused (step e (seen b m) .answer) ≡ true → (b1 ≡ b) × (m1 ≡ m)
+refused-stays (called h) is = (h .tables ∙ rw is, h .words ∙ rw is)
+refused-stays (stored h) is = (refl, h .bytes ∙ rw is)
+refused-stays (clocked h) is = (h .bytes ∙ rw is, refl)
+refused-stays (interrupted h) is = (h .bytes ∙ rw is, refl)
+refused-stays (queried h) is = (refl, refl)
 
--- an event whose one number and bytes are those of its step
-by-left : (e : Event) (b m b1 m1 : List ℕ) (w : World) (r : ℤ) → Stand b m w → EventFits e → b1 ≡ tablesBytes (step e w .world .state)
-    → m1 ≡ wordsBytes (step e w .world .words) → r ∷ [] ≡ answerNumbers (step e (seen b m) .answer) → Stepped e w r b1 m1
-by-left e b m b1 m1 w r s f tables words n =
-    record {
-      stand = record { tables = tables; words = words; valid = step-valid e w (s .valid); fits = step-fits e w f (s .fits) };
-      number = one-number (step e w .answer) r (n ∙ ap (λ v. answerNumbers (step e v .answer)) (seen-is b m w s));
-    }
+-- only a refusal is below 0
+abbrev below-zero : ℤ → Bool
+below-zero (pos n) = false
+below-zero (negsuc n) = true
 
-stepped : (e : Event) (b m b1 m1 : List ℕ) (w : World) (r : ℤ) → Stand b m w → EventFits e → Hosted e b m r b1 m1 → Stepped e w r b1 m1
-stepped e b m b1 m1 w r s f (called h) = by-left e b m b1 m1 w r s f (h .tables ∙ left-tables b m w s e) (h .words ∙ left-words b m w s e) (h .number)
-stepped e b m b1 m1 w r s f (stored {p} {a} {v} h) =
-    by-left e b m b1 m1 w r s f (s .tables ∙ ap tablesBytes (sym (store-state p a v w))) (h .bytes ∙ left-words b m w s e) (h .number)
-stepped e b m b1 m1 w r s f (clocked {now} h) =
-    by-left e b m b1 m1 w r s f (h .bytes ∙ left-tables b m w s e) (s .words ∙ ap wordsBytes (sym (clock-words now w))) (h .number)
-stepped e b m b1 m1 w r s f (interrupted {p} {i} h) =
-    by-left e b m b1 m1 w r s f (h .bytes ∙ left-tables b m w s e) (s .words ∙ ap wordsBytes (sym (ended-words p i w))) (h .number)
-stepped (Query p) b m b1 m1 w r s f (queried h) =
-    record {
-      stand = subst (Stand b m) (sym (asked p w)) s;
-      number = ap pos (h ∙ ap (λ (v : World). packed (panel p (v .state))) (seen-is b m w s)) ∙ ap hostNumber (sym (shown p w));
-    }
+pub below-refused : (a : Answer) (n : ℕ) → negsuc n ≡ hostNumber a → isRefused a ≡ true
+below-refused Asleep n h = ap below-zero (sym h)
+below-refused (Count k) n h = ap below-zero (sym h)
+below-refused (Refused x) n h = refl
+below-refused (Waiting v) n h = ap below-zero (sym h)
 
--- over a whole history
-pub record Ran (h : List Event) (w : World) (rs : List ℤ) (b m : List ℕ) : Type 0 where
-  pub stand : Stand b m (final h w)
-  pub numbers : rs ≡ map hostNumber (answers h w)
+pub record Stand (b m : List ℕ) (w : World) : Type 0 where
+  pub tables : b ≡ tablesBytes (w .state)
+  pub words : m ≡ wordsBytes (w .words)
+  pub valid : Valid w
+  pub fits : FitsWorld w
 
-pub ran : {h : List Event} {b m b2 m2 : List ℕ} {rs : List ℤ} (w : World) → HostRuns h b m rs b2 m2 → Stand b m w → Ran h w rs b2 m2
-ran w over s = record { stand = s; numbers = refl }
-ran w (next {e = e} f h run) s =
-    let one = stepped e _ _ _ _ w _ s f h in
-    let rest = ran (step e w .world) run (one .stand) in
-    record { stand = rest .stand; numbers = λ j. one .number j ∷ rest .numbers j }
+pub seen-is : (b m : List ℕ) (w : World) → Stand b m w → seen b m ≡ w
+seen-is b m w s =
+    let tables = tables-back (w .state) b (record { bytes = s .tables; sound = sound-tables (w .state) (s .valid .sound) }) (s .fits .state) in
+    let words = ap wordsAt (s .words) ∙ words-stand (w .words) (s .valid .memory) (λ i l. s .fits .words i) in
+    λ j. record { state = tables j; words = words j }
+
+module _ (b m : List ℕ) (s : Stand b m (seen b m)) where
+  -- a refusal leaves the bytes, and they still stand for the world
+  refused-world : (e : Event) (a : Answer) → step e (seen b m) .answer ≡ a → isRefused a ≡ true → step e (seen b m) .world ≡ seen b m
+  refused-world e (Refused x) is h = refusal-leaves-all e (seen b m) x is
+  refused-world e Asleep is h = clash false h refl
+  refused-world e (Count n) is h = clash false h refl
+  refused-world e (Waiting v) is h = clash false h refl
+
+  left-tables : (e : Event) → tablesLeft (step e (seen b m)) b ≡ tablesBytes (step e (seen b m) .world .state)
+  left-tables e = cases (isRefused (step e (seen b m) .answer))
+      (λ r. rw r (s .tables ∙ ap (λ (v : World). tablesBytes (v .state)) (sym (refused-world e (step e (seen b m) .answer) refl r))))
+      (λ r. rw r)
+
+  left-words : (e : Event) → wordsLeft (step e (seen b m)) m ≡ wordsBytes (step e (seen b m) .world .words)
+  left-words e = cases (isRefused (step e (seen b m) .answer))
+      (λ r. rw r (s .words ∙ ap (λ (v : World). wordsBytes (v .words)) (sym (refused-world e (step e (seen b m) .answer) refl r))))
+      (λ r. rw r)
+
+  left : (e : Event) {b1 m1 : List ℕ} → EventFits e → b1 ≡ tablesBytes (step e (seen b m) .world .state) → m1 ≡ wordsBytes (step e (seen b m) .world .words)
+      → Stand b1 m1 (step e (seen b m) .world)
+  left e f tables words = record { tables = tables; words = words; valid = step-valid e (seen b m) (s .valid); fits = step-fits e (seen b m) f (s .fits) }
+
+  pub stepped : {e : Event} {b1 m1 : List ℕ} {r : ℤ} → Hosted e b m r b1 m1 → Stand b1 m1 (step e (seen b m) .world)
+  stepped {e} (called h) = left e (h .fits) (h .tables ∙ left-tables e) (h .words ∙ left-words e)
+  stepped {e} (stored {p} {a} {v} h) = left e (h .fits) (s .tables ∙ ap tablesBytes (sym (store-state p a v (seen b m)))) (h .bytes ∙ left-words e)
+  stepped {e} (clocked {now} h) = left e (h .fits) (h .bytes ∙ left-tables e) (s .words ∙ ap wordsBytes (sym (clock-words now (seen b m))))
+  stepped {e} (interrupted {p} {i} h) = left e (h .fits) (h .bytes ∙ left-tables e) (s .words ∙ ap wordsBytes (sym (ended-words p i (seen b m))))
+  stepped (queried {p} h) = subst (Stand b m) (sym (asked p (seen b m))) s
 
 -- the numbers of the process's events are those of its answers
 pub entries-map : {A B : Type 0} (f : A → B) (p : ℕ) (h : List Event) (l : List A) → entriesOf p h (map f l) ≡ map f (entriesOf p h l)

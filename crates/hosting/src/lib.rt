@@ -1,1 +1,52 @@
 // Hosting: what is proved of whole histories that a host in C runs through the library. It stands on vradomil.
+ghost use Rattle.hosting.specs.Hosts.{Hosted};
+use rules::event::Event;
+use vradomil::call::vradomil_call;
+use vradomil::event::vradomil_clock;
+use vradomil::event::vradomil_interrupt;
+use vradomil::event::vradomil_query;
+use vradomil::event::vradomil_store;
+
+// An event as a host passes it to its entry point. The theorems take for known of an event what this ensures, and no more.
+pub fn pass(tables: &mut [u8], words: &mut [u8], e: Event) -> i64
+    ensures { λ r. ⌜ Hosted e (now (tables .entry)) (now (words .entry)) r (now (tables .exit)) (now (words .exit)) ⌝ }
+{
+    match e {
+        Event::Call(c) => {
+            let r = vradomil_call(
+                tables,
+                words,
+                c.process,
+                c.index,
+                c.op,
+                c.uaddr,
+                c.val,
+                c.flag,
+                c.timeout,
+                c.uaddr2,
+                c.val3,
+            );
+            r as i64
+        }
+        Event::Store {
+            process,
+            address,
+            value,
+        } => {
+            let r = vradomil_store(tables, words, process, address, value);
+            r as i64
+        }
+        Event::Clock { time } => {
+            let r = vradomil_clock(tables, words, time);
+            r as i64
+        }
+        Event::Interrupt { process, index } => {
+            let r = vradomil_interrupt(tables, words, process, index);
+            r as i64
+        }
+        Event::Query { process } => {
+            let n = vradomil_query(tables, process);
+            n as i64
+        }
+    }
+}

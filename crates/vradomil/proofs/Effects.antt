@@ -73,7 +73,7 @@ module _ (k : Command) (c : Call) (s : State) (g : Sound s) (f : ℕ → Bool)
       let few = moved-few n m b after t cap u in
       answered-leaves (requeue k c (world s [])) _ (n + more) after (requeues k c s g f is [])
       (record {
-        number = λ i. pos (t .number i + (counts ∙ ap (λ q. cond (uses k .compare) q 0) (v .number)) i) ∷ [];
+        number = λ i. pos (t .number i + (counts ∙ ap (λ q. cond (uses k .compare) q 0) (v .number)) i);
         small = omega (arith, few);
         bytes = v .bytes;
       })
@@ -98,4 +98,4 @@ module _ (k : Command) (c : Call) (w : World) (g : Sound (w .state)) (f h : ℕ 
       let few = ended-few Woken f (c .val) (w .state) n b g t in
       let more = ended-few Woken h cap (one .state) m after (end-sound Woken f (c .val) (w .state) g) u in
       answered-leaves (wakeOp k c w) _ (n + m) after (releases-both k c w g f h is is2)
-      (record { number = λ i. pos (t .number i + v .number i) ∷ []; small = omega (arith, few, more); bytes = v .bytes })
+      (record { number = λ i. pos (t .number i + v .number i); small = omega (arith, few, more); bytes = v .bytes })

@@ -1,6 +1,6 @@
 -- An event's number and bytes are the rules', by its verdict: refused, or let through.
 use mathlib.Core.Path.{_≡_, sym, ap, subst, subst₂, _∙_}
-use mathlib.Core.Bool.{false}
+use mathlib.Core.Bool.{false, cond}
 use mathlib.Core.List.{List, [], _∷_, _++_}
 use Prim.Native.Nat.{ℕ, _≤_}
 use lib.IntN.{ℤ, pos}
@@ -17,7 +17,7 @@ use Rattle.rules.specs.declared.answer.Verdict.{Verdict}
 use Rattle.rules.specs.declared.answer.Verdict.the-variants.{Refuse, Pass}
 use Rattle.rules.specs.declared.answer.Answer.{Answer}
 use Rattle.rules.specs.declared.answer.Answer.the-variants.{Count, Refused}
-use Rattle.rules.specs.Answers.{Row, first, Outcome, isRefused, answerNumbers, asleepNumber}
+use Rattle.rules.specs.Answers.{Row, first, Outcome, isRefused, asleepNumber}
 use Rattle.rules.specs.Commands.{commandOf}
 use Rattle.rules.specs.Calls.{firstRows, callEffect}
 use Rattle.rules.specs.Events.{ownRows, isQuery, refusals, effect, step}
@@ -27,7 +27,7 @@ use Rattle.tables.specs.Tables.{world}
 use Rattle.layout.specs.Layout.{tablesBytes, stateAt, wordsAt, wordsBytes}
 use Rattle.layout.specs.Check.{Held}
 use Rattle.changes.specs.Change.{Stands, Standing, TakenBytes}
-use Rattle.vradomil.specs.Host.{seen, tablesLeft, wordsLeft, Numbered, ChangesTables, ChangesWords, Calls, BuffersJudged, Done, Leaves}
+use Rattle.vradomil.specs.Host.{seen, tablesLeft, wordsLeft, hostNumber, CallFits, EventFits, ChangesTables, ChangesWords, Calls, BuffersJudged, Done, Leaves}
 
 -- the tables that sound bytes stand for
 pub stands : (b : List ℕ) → Held b → Stands (stateAt b) b
@@ -37,12 +37,12 @@ pub standing : (b : List ℕ) → Held b → Standing b
 standing b h = record { state = stateAt b; stands = stands b h }
 
 -- a number that fits 32 bits is read back as it was stored
-pub read-back : {z : ℤ} {l : List ℤ} → (z ∷ [] ≡ l) × SFits w32 z → toZ w32 (ofZ w32 z) ∷ [] ≡ l
-read-back h = ap (λ z. z ∷ []) (toZ-ofZ (h .1)) ∙ h .0
+pub read-back : {z y : ℤ} → (z ≡ y) × SFits w32 z → toZ w32 (ofZ w32 z) ≡ y
+read-back h = toZ-ofZ (h .1) ∙ h .0
 
 -- a count of sleepers that were taken, as a number and bytes
 pub took-done : (t : Taken) (n : ℕ) (after : List ℕ) → TakenBytes t n after → n ≤ asleepNumber → Done (Count (t .n)) (t .state) n after
-took-done t n after h few = record { number = ap (λ k. pos k ∷ []) (h .number); small = few; bytes = h .bytes }
+took-done t n after h few = record { number = ap pos (h .number); small = few; bytes = h .bytes }
 
 pub done-by : (a d : Answer) (s u : State) (n : ℕ) (after : List ℕ) → a ≡ d → s ≡ u → Done a s n after → Done d u n after
 done-by a d s u n after is same h = subst₂ (λ (x : Answer) (y : State). Done x y n after) is same h
@@ -68,25 +68,31 @@ module _ (e : Event) (b m : List ℕ) (v : Verdict) (l : BuffersJudged b m v) (s
 
 -- bytes that a change leaves
 tables-changed : (o : Outcome) (b : List ℕ) → isRefused (o .answer) ≡ false → tablesLeft o b ≡ tablesBytes (o .world .state)
-tables-changed o b h = rw h
+tables-changed o b h = ap (λ r. cond r b (tablesBytes (o .world .state))) h
 
 words-changed : (o : Outcome) (m : List ℕ) → isRefused (o .answer) ≡ false → wordsLeft o m ≡ wordsBytes (o .world .words)
-words-changed o m h = rw h
+words-changed o m h = ap (λ r. cond r m (wordsBytes (o .world .words))) h
 
 module _ (e : Event) (b m : List ℕ) (r : ℤ) where
-  module _ (x : Errno) (h : first (refusals e (seen b m)) ≡ Refuse x) (n : Numbered (Refused x) r) where
-    number-refused : Numbered (step e (seen b m) .answer) r
-    number-refused = n ∙ ap (λ (o : Outcome). answerNumbers (o .answer)) (sym (step-refused e (seen b m) x h))
+  module _ (x : Errno) (h : first (refusals e (seen b m)) ≡ Refuse x) (n : r ≡ hostNumber (Refused x)) where
+    number-refused : r ≡ hostNumber (step e (seen b m) .answer)
+    number-refused = n ∙ ap (λ (o : Outcome). hostNumber (o .answer)) (sym (step-refused e (seen b m) x h))
 
-    pub changes-tables-refused : ChangesTables e b m r b
-    changes-tables-refused = record { number = number-refused; bytes = ap (λ (o : Outcome). tablesLeft o b) (sym (step-refused e (seen b m) x h)) }
+    tables-refused : b ≡ tablesLeft (step e (seen b m)) b
+    tables-refused = ap (λ (o : Outcome). tablesLeft o b) (sym (step-refused e (seen b m) x h))
 
-    pub changes-words-refused : ChangesWords e b m r m
-    changes-words-refused = record { number = number-refused; bytes = ap (λ (o : Outcome). wordsLeft o m) (sym (step-refused e (seen b m) x h)) }
+    words-refused : m ≡ wordsLeft (step e (seen b m)) m
+    words-refused = ap (λ (o : Outcome). wordsLeft o m) (sym (step-refused e (seen b m) x h))
 
-  module _ (h : first (refusals e (seen b m)) ≡ Pass) (n : Numbered (effect e (seen b m) .answer) r) where
-    pub number-passed : Numbered (step e (seen b m) .answer) r
-    number-passed = n ∙ ap (λ (o : Outcome). answerNumbers (o .answer)) (sym (step-passed e (seen b m) h))
+    pub changes-tables-refused : EventFits e → ChangesTables e b m r b
+    changes-tables-refused f = record { number = number-refused; bytes = tables-refused; fits = f }
+
+    pub changes-words-refused : EventFits e → ChangesWords e b m r m
+    changes-words-refused f = record { number = number-refused; bytes = words-refused; fits = f }
+
+  module _ (h : first (refusals e (seen b m)) ≡ Pass) (n : r ≡ hostNumber (effect e (seen b m) .answer)) where
+    pub number-passed : r ≡ hostNumber (step e (seen b m) .answer)
+    number-passed = n ∙ ap (λ (o : Outcome). hostNumber (o .answer)) (sym (step-passed e (seen b m) h))
 
     done : isRefused (effect e (seen b m) .answer) ≡ false
     done = granted e (seen b m) (pass-clear (refusals e (seen b m)) h)
@@ -99,20 +105,21 @@ module _ (e : Event) (b m : List ℕ) (r : ℤ) where
 
 -- an event that leaves the words, on tables that keep the rules
 pub changes-tables-done : (e : Event) (b m : List ℕ) (r : ℤ) (n : ℕ) (after : List ℕ) → Held b → first (refusals e (seen b m)) ≡ Pass
-    → r ≡ pos n → Leaves (effect e (world (stateAt b) (wordsAt m))) n after → ChangesTables e b m r after
-changes-tables-done e b m r n after held h is done =
+    → r ≡ pos n → Leaves (effect e (world (stateAt b) (wordsAt m))) n after → EventFits e → ChangesTables e b m r after
+changes-tables-done e b m r n after held h is done f =
     let d = leaves-by _ _ n after (ap (λ (s : State). effect e (world s (wordsAt m))) (sym (held .tables))) done in
-    let number = ap (λ z. z ∷ []) is ∙ d .number in
-    record { number = number-passed e b m r h number; bytes = tables-passed e b m r h number after (d .bytes) }
+    let number = is ∙ d .number in
+    record { number = number-passed e b m r h number; bytes = tables-passed e b m r h number after (d .bytes); fits = f }
 
 -- a call
-module _ (c : Call) (b m : List ℕ) (r : ℤ) where
-  pub calls-refused : (x : Errno) → first (refusals (CallEvent c) (seen b m)) ≡ Refuse x → Numbered (Refused x) r → Calls c b m r b m
+module _ (c : Call) (b m : List ℕ) (r : ℤ) (f : CallFits c) where
+  pub calls-refused : (x : Errno) → first (refusals (CallEvent c) (seen b m)) ≡ Refuse x → r ≡ hostNumber (Refused x) → Calls c b m r b m
   calls-refused x h n =
       record {
         number = number-refused (CallEvent c) b m r x h n;
-        tables = changes-tables-refused (CallEvent c) b m r x h n .bytes;
-        words = changes-words-refused (CallEvent c) b m r x h n .bytes;
+        tables = tables-refused (CallEvent c) b m r x h n;
+        words = words-refused (CallEvent c) b m r x h n;
+        fits = f;
       }
 
   pub calls-passed : (n : ℕ) (bAfter mAfter : List ℕ) → Held b → first (refusals (CallEvent c) (seen b m)) ≡ Pass → r ≡ pos n
@@ -124,9 +131,10 @@ module _ (c : Call) (b m : List ℕ) (r : ℤ) where
       let k = commandOf (c .op) in
       let same = ap (λ (s : State). callEffect k c (world s (wordsAt m))) (sym (held .tables)) in
       let d = leaves-by _ _ n bAfter same done in
-      let number = ap (λ z. z ∷ []) is ∙ d .number in
+      let number = is ∙ d .number in
       record {
         number = number-passed (CallEvent c) b m r h number;
         tables = tables-passed (CallEvent c) b m r h number bAfter (d .bytes);
         words = words-passed (CallEvent c) b m r h number mAfter (words ∙ ap (λ (o : Outcome). wordsBytes (o .world .words)) same);
+        fits = f;
       }

@@ -2,24 +2,25 @@
 use mathlib.Core.Path.{_≡_}
 use mathlib.Core.Bool.{cond}
 use mathlib.Core.List.{List, [], _∷_}
-use Prim.Native.Nat.{ℕ, _+_, _*_, _^_, _≤_}
-use lib.IntN.{ℤ, pos}
+use Prim.Native.Nat.{ℕ, _+_, _*_, _^_, _≤_, _<_}
+use lib.IntN.{ℤ, pos, negℤ}
 use lib.ListN.{length}
 use lib.Dec.{eqb}
 use Rattle.tables.specs.declared.State.{State}
 use Rattle.rules.specs.declared.event.Call.{Call}
 use Rattle.rules.specs.declared.event.Event.{Event}
-use Rattle.rules.specs.declared.event.Event.the-variants.{Call as CallEvent}
+use Rattle.rules.specs.declared.event.Event.the-variants.{Call as CallEvent, Store, Clock, Interrupt, Query}
 use Rattle.rules.specs.declared.answer.Answer.{Answer}
-use Rattle.rules.specs.declared.answer.Answer.the-variants.{Count, Refused}
+use Rattle.rules.specs.declared.answer.Answer.the-variants.{Asleep, Count, Refused, Waiting}
 use Rattle.rules.specs.declared.answer.Verdict.{Verdict}
 use Rattle.rules.specs.declared.answer.Verdict.the-variants.{Pass}
 use Rattle.rules.specs.declared.answer.Errno.the-variants.{ENXIO, EBADF}
 use Rattle.rules.specs.declared.answer.Panel.{Panel}
+use Rattle.tables.specs.Sizes.{wordLimit, timeLimit}
 use Rattle.tables.specs.Tables.{World, world, fresh}
-use Rattle.rules.specs.Answers.{_when_, first, Outcome, isRefused, answerNumbers, asleepNumber}
+use Rattle.rules.specs.Answers.{_when_, first, Outcome, isRefused, errnoNumber, asleepNumber}
 use Rattle.rules.specs.Calls.{wrongMemory, brokenTables}
-use Rattle.rules.specs.Events.{step, refusals}
+use Rattle.rules.specs.Events.{step, refusals, panel}
 use Rattle.effects.specs.Ready.{Ready}
 use Rattle.layout.specs.Layout.{tablesAt, tablesBytes, tablesSize, stateAt, wordsAt, wordsBytes, memorySize}
 use Rattle.layout.specs.Check.{Held}
@@ -35,26 +36,6 @@ tablesLeft o tables = cond (isRefused (o .answer)) tables (tablesBytes (o .world
 abbrev pub wordsLeft : Outcome → List ℕ → List ℕ
 wordsLeft o words = cond (isRefused (o .answer)) words (wordsBytes (o .world .words))
 
--- The number is the answer's, as document 01 has it.
-abbrev pub Numbered : Answer → ℤ → Type 0
-Numbered a r = r ∷ [] ≡ answerNumbers a
-
--- An event that may change the tables, with words that are only read.
-pub record ChangesTables (e : Event) (tables words : List ℕ) (r : ℤ) (after : List ℕ) : Type 0 where
-  pub number : Numbered (step e (seen tables words) .answer) r
-  pub bytes : after ≡ tablesLeft (step e (seen tables words)) tables
-
--- An event that may change a word, with tables that are only read.
-pub record ChangesWords (e : Event) (tables words : List ℕ) (r : ℤ) (after : List ℕ) : Type 0 where
-  pub number : Numbered (step e (seen tables words) .answer) r
-  pub bytes : after ≡ wordsLeft (step e (seen tables words)) words
-
--- A call, which may change both.
-pub record Calls (c : Call) (b m : List ℕ) (r : ℤ) (bAfter mAfter : List ℕ) : Type 0 where
-  pub number : Numbered (step (CallEvent c) (seen b m) .answer) r
-  pub tables : bAfter ≡ tablesLeft (step (CallEvent c) (seen b m)) b
-  pub words : mAfter ≡ wordsLeft (step (CallEvent c) (seen b m)) m
-
 -- the three numbers of a panel query in one: the waiting set in the lowest byte, the count in the second, the lowest thread above
 abbrev pub countUnit : ℕ
 countUnit = 2 ^ 8
@@ -65,9 +46,65 @@ lowestUnit = 2 ^ 16
 abbrev pub packed : Panel → ℕ
 packed v = v .waiting + countUnit * v .count + lowestUnit * v .lowest
 
+-- The one number that an answer is to a host: "a count, or the error number negated"; "There "asleep" is 2147483647".
+abbrev pub hostNumber : Answer → ℤ
+hostNumber Asleep = pos asleepNumber
+hostNumber (Count n) = pos n
+hostNumber (Refused x) = negℤ (pos (errnoNumber x))
+hostNumber (Waiting v) = pos (packed v)
+
+-- Each argument fits its type in C: uint8_t, uint32_t, uint64_t.
+abbrev pub byteLimit : ℕ
+byteLimit = 2 ^ 8
+
+pub record CallFits (c : Call) : Type 0 where
+  pub process : c .process < byteLimit
+  pub index : c .index < byteLimit
+  pub op : c .op < wordLimit
+  pub uaddr : c .uaddr < wordLimit
+  pub val : c .val < wordLimit
+  pub flag : c .flag < byteLimit
+  pub timeout : c .timeout < timeLimit
+  pub uaddr2 : c .uaddr2 < wordLimit
+  pub val3 : c .val3 < wordLimit
+
+abbrev pub EventFits : Event → Type 0
+EventFits (CallEvent c) = CallFits c
+EventFits (Store p a v) = (p < byteLimit) × (a < wordLimit) × (v < wordLimit)
+EventFits (Clock now) = now < timeLimit
+EventFits (Interrupt p i) = (p < byteLimit) × (i < byteLimit)
+EventFits (Query p) = p < byteLimit
+
+-- What the entry points ensure: the number, every byte that they may change, and, since no other event can be passed to them, that the event's
+-- arguments fit their types.
+
+-- An event that may change the tables, with words that are only read.
+pub record ChangesTables (e : Event) (tables words : List ℕ) (r : ℤ) (after : List ℕ) : Type 0 where
+  pub number : r ≡ hostNumber (step e (seen tables words) .answer)
+  pub bytes : after ≡ tablesLeft (step e (seen tables words)) tables
+  pub fits : EventFits e
+
+-- An event that may change a word, with tables that are only read.
+pub record ChangesWords (e : Event) (tables words : List ℕ) (r : ℤ) (after : List ℕ) : Type 0 where
+  pub number : r ≡ hostNumber (step e (seen tables words) .answer)
+  pub bytes : after ≡ wordsLeft (step e (seen tables words)) words
+  pub fits : EventFits e
+
+-- A call, which may change both.
+pub record Calls (c : Call) (b m : List ℕ) (r : ℤ) (bAfter mAfter : List ℕ) : Type 0 where
+  pub number : r ≡ hostNumber (step (CallEvent c) (seen b m) .answer)
+  pub tables : bAfter ≡ tablesLeft (step (CallEvent c) (seen b m)) b
+  pub words : mAfter ≡ wordsLeft (step (CallEvent c) (seen b m)) m
+  pub fits : CallFits c
+
+-- A panel query, which changes nothing.
+pub record Shows (p : ℕ) (tables : List ℕ) (n : ℕ) : Type 0 where
+  pub number : n ≡ packed (panel p (tablesAt tables))
+  pub fits : EventFits (Query p)
+
 -- fresh tables are laid down; of another length than the tables' they are refused as the tables would be
 pub record Initialised (b : List ℕ) (r : ℤ) (after : List ℕ) : Type 0 where
-  pub number : Numbered (cond (eqb (length b) tablesSize) (Count 0) (Refused EBADF)) r
+  pub number : r ≡ hostNumber (cond (eqb (length b) tablesSize) (Count 0) (Refused EBADF))
   pub bytes : after ≡ cond (eqb (length b) tablesSize) (tablesBytes fresh) b
 
 -- What the functions inside tell each other.
@@ -91,7 +128,7 @@ pub record Passed (c : Call) (tables : List ℕ) : Type 0 where
 
 -- an answer and the tables that go with it, as a number and bytes
 pub record Done (a : Answer) (s : State) (n : ℕ) (after : List ℕ) : Type 0 where
-  pub number : Numbered a (pos n)
+  pub number : pos n ≡ hostNumber a
   -- it fits a signed 32-bit number, of which "asleep" is the largest
   pub small : n ≤ asleepNumber
   pub bytes : after ≡ tablesBytes s

@@ -6,9 +6,9 @@ ghost use lib.ListN.{length};
 ghost use lib.Dec.{leb, ltb};
 ghost use Rattle.tables.specs.Sizes.{processes, noEntry};
 ghost use Rattle.rules.specs.declared.event.Event.the-variants.{Store, Clock, Interrupt};
-ghost use Rattle.rules.specs.Events.{waitingSet, panel};
-ghost use Rattle.layout.specs.Layout.{tablesAt, stateAt, tablesSize, listAt, waitingAt};
-ghost use Rattle.vradomil.specs.Host.{ChangesWords, ChangesTables, Initialised, packed};
+ghost use Rattle.rules.specs.Events.{waitingSet};
+ghost use Rattle.layout.specs.Layout.{stateAt, tablesSize, listAt, waitingAt};
+ghost use Rattle.vradomil.specs.Host.{ChangesWords, ChangesTables, Shows, Initialised};
 use crate::answer::refusal;
 use crate::buffers::judge_buffers;
 use changes::end_first;
@@ -135,7 +135,7 @@ const LOWEST_UNIT: u32 = 65536;
 // A panel query: the waiting set, the count and the lowest thread in one number.
 #[no_mangle]
 pub extern "C" fn vradomil_query(tables: &[u8], process: u8) -> u32
-    ensures { λ r. ⌜ r ≡ packed (panel process (tablesAt (now (tables .entry)))) ⌝ }
+    ensures { λ r. ⌜ Shows process (now (tables .entry)) r ⌝ }
 {
     let exists = (process as usize) < PROCESSES;
     let ok = sound(tables);

@@ -48,7 +48,7 @@ sub-result c = rw (negated (c .number .result) (small c)) (negated-fits (c .numb
 returns : tie.Need-returns
 returns c =
     let is = toZ-ofZ (sub-result c) ∙ negated (c .number .result) (small c) in
-    (ap (λ z. z ∷ []) (is ∙ ap (λ n. negℤ (pos n)) (c .number .ensures)), rw is (negated-fits (c .number .result) (small c)))
+    (is ∙ ap (λ n. negℤ (pos n)) (c .number .ensures), rw is (negated-fits (c .number .result) (small c)))
 
 pub refusal-spec : {M : Type 1} → statement M
 refusal-spec = tie.close (tie.spec number-requires cast-result sub-result returns)

@@ -14,6 +14,7 @@ use Rattle.rules.proofs.Rows.{pass-clear}
 use Rattle.kernel.proofs.Calls.{granted}
 use Rattle.layout.specs.Layout.{stateAt, wordsAt}
 use Rattle.layout.specs.Check.{Held}
+use Rattle.vradomil.specs.Host.{CallFits}
 use Rattle.vradomil.proofs.Steps.{read-back, calls-refused, calls-passed}
 use borrow.Author.Needs.{needs}
 use Rattle.vradomil.proofs.call.vradomil_call.Statement.{statement}
@@ -26,6 +27,9 @@ abbrev call : tie.Start → Call
 call g =
     let a = g .args in
     record { process = a .process; index = a .index; op = a .op; uaddr = a .uaddr; val = a .val; flag = a .flag; timeout = a .timeout; uaddr2 = a .uaddr2; val3 = a .val3 }
+
+fits : (g : tie.Start) → CallFits (call g)
+fits g = search needs
 
 -- what a call that is not refused has shown
 held : (c : tie.After-enum-told) → Held (now (start (c .before .before) .args .tables))
@@ -70,7 +74,7 @@ returns : tie.Need-returns
 returns c =
     let j = c .before .before .before .before in
     let g = start j in
-    calls-refused (call g) (now (g .args .tables)) (now (g .args .words)) _ _ (sym (j .judge .ensures .verdict) ∙ c .before .before .v .given .1)
+    calls-refused (call g) (now (g .args .tables)) (now (g .args .words)) _ (fits g) _ (sym (j .judge .ensures .verdict) ∙ c .before .before .v .given .1)
     (read-back (c .refusal .ensures))
 
 same-length-3 : tie.Need-same-length-3
@@ -85,7 +89,7 @@ returns-2 c =
     let p = f .before .before .before in
     let j = p .before .before in
     let g = start j in
-    calls-passed (call g) (now (g .args .tables)) (now (g .args .words)) _ (f .perform .result) _ _ (held p) (sym (j .judge .ensures .verdict) ∙ p .enum-told .given .1)
+    calls-passed (call g) (now (g .args .tables)) (now (g .args .words)) _ (fits g) (f .perform .result) _ _ (held p) (sym (j .judge .ensures .verdict) ∙ p .enum-told .given .1)
     (toZ-pos w32 {n = f .perform .result} (omega (arith, f .perform .ensures .0 .small))) (f .perform .ensures .0) (f .perform .ensures .1)
 
 pub vradomil-call-spec : {M : Type 1} → statement M

@@ -18,7 +18,7 @@ use Rattle.rules.specs.Events.{refusals, effect, clockEffect}
 use Rattle.tables.specs.Tables.{world}
 use Rattle.layout.specs.Layout.{tablesAt, stateAt, wordsAt}
 use Rattle.layout.specs.Check.{Held}
-use Rattle.vradomil.specs.Host.{seen}
+use Rattle.vradomil.specs.Host.{seen, EventFits}
 use Rattle.vradomil.proofs.Steps.{read-back, stands, standing, event-refused, event-passed, changes-tables-refused, changes-tables-done}
 use Rattle.vradomil.proofs.Effects.{Ended, ended, answered-leaves}
 use lib.Dec.{ltb}
@@ -38,6 +38,9 @@ start c = c .before .before .before .before
 
 abbrev event : tie.Start → Event
 event g = Clock (g .args .time)
+
+fits : (g : tie.Start) → EventFits (event g)
+fits g = search needs
 
 -- what the first two rows have shown
 held : (c : tie.After-enum-told) → Held (now (start (c .before .before) .args .tables))
@@ -96,7 +99,7 @@ returns c =
     let b = now (g .args .tables) in
     let early : ltb (g .args .time) (tablesAt b .clock) ≡ true = sym (ap (ltb (g .args .time)) (clock k)) ∙ lt-ltb (g .args .time) (k .u64-at .result) (c .before .if1 .taken) in
     changes-tables-refused (event g) b (now (g .args .words)) _ EINVAL (own p ∙ rw early)
-    (read-back (c .refusal2 .ensures))
+    (read-back (c .refusal2 .ensures)) (fits g)
 
 expired-requires : tie.Need-expired-requires
 expired-requires c κs = held (c .before .before .before .before)
@@ -120,7 +123,7 @@ returns-2 c =
     let l = c .before .before .before .before in
     let g = start l in
     changes-tables-refused (event g) (now (g .args .tables)) (now (g .args .words)) _ _ (event-refused (event g) (now (g .args .tables)) (now (g .args .words)) (l .judge-buffers .result) (l .judge-buffers .ensures) refl _ (c .before .before .v .given .1))
-    (read-back (c .refusal .ensures))
+    (read-back (c .refusal .ensures)) (fits g)
 
 same-length-3 : tie.Need-same-length-3
 same-length-3 c = search needs
@@ -147,10 +150,10 @@ returns-3 c =
     changes-tables-done (event g) b m _ (e .end-first .result) _ (held p) (own p ∙ rw early) (toZ-pos w32 {n = e .end-first .result} (omega (arith, timed-out e .few)))
     (answered-leaves (clockEffect time (world s (wordsAt m))) _ (e .end-first .result) _ (clock-ends time s (wordsAt m) (sound p) (x .expired .result) (x .expired .ensures) t refl)
     (record {
-      number = ap (λ q. pos q ∷ []) (timed-out e .took .number);
+      number = ap pos (timed-out e .took .number);
       small = omega (arith, timed-out e .few);
       bytes = u .put-u64 .ensures ∙ clock-put (t .state) w time (e .end-first .last .0) (timed-out e .took .bytes);
-    }))
+    })) (fits g)
 
 pub vradomil-clock-spec : {M : Type 1} → statement M
 vradomil-clock-spec =

@@ -23,7 +23,7 @@ use Rattle.rules.proofs.Passed.{thread-process, thread-index}
 use Rattle.kernel.proofs.Events.{interrupt-ends}
 use Rattle.layout.specs.Layout.{stateAt, wordsAt}
 use Rattle.layout.specs.Check.{Held}
-use Rattle.vradomil.specs.Host.{seen}
+use Rattle.vradomil.specs.Host.{seen, EventFits}
 use Rattle.vradomil.proofs.Steps.{read-back, stands, standing, took-done, event-refused, event-passed, changes-tables-refused, changes-tables-done}
 use Rattle.vradomil.proofs.Effects.{Ended, ended, answered-leaves}
 use Rattle.commands.proofs.Places.{thread-below, thread-there}
@@ -36,6 +36,9 @@ start c = c .before .before .before .before
 
 abbrev event : tie.Start → Event
 event g = Interrupt (g .args .process) (g .args .index)
+
+fits : (g : tie.Start) → EventFits (event g)
+fits g = search needs
 
 -- what the first two rows have shown
 held : (c : tie.After-enum-told) → Held (now (start (c .before .before) .args .tables))
@@ -89,7 +92,7 @@ returns c =
     let p = n .before in
     let g = start (p .before .before) in
     changes-tables-refused (event g) (now (g .args .tables)) (now (g .args .words)) _ ESRCH (own p ∙ rw (sym (n .no-thread .ensures) ∙ c .before .if1 .taken))
-    (read-back (c .refusal2 .ensures))
+    (read-back (c .refusal2 .ensures)) (fits g)
 
 thread-index-requires : tie.Need-thread-index-requires
 thread-index-requires c κs = search needs
@@ -113,7 +116,7 @@ returns-2 c =
     let l = c .before .before .before .before in
     let g = start l in
     changes-tables-refused (event g) (now (g .args .tables)) (now (g .args .words)) _ _ (event-refused (event g) (now (g .args .tables)) (now (g .args .words)) (l .judge-buffers .result) (l .judge-buffers .ensures) refl _ (c .before .before .v .given .1))
-    (read-back (c .refusal .ensures))
+    (read-back (c .refusal .ensures)) (fits g)
 
 same-length-3 : tie.Need-same-length-3
 same-length-3 c = search needs
@@ -138,7 +141,7 @@ returns-3 c =
     (toZ-pos w32 {n = e .end-first .result} (omega (arith, stopped e .few)))
     (answered-leaves (interruptEffect (threadNumber (g .args .process) (g .args .index)) (world s (wordsAt m))) _ (e .end-first .result) _
     (interrupt-ends x s (wordsAt m) (sound p) (thread-below _ _ (t .thread-index .ensures)) taken refl ∙ ap (λ q. answered (interruptEffect q (world s (wordsAt m)))) at)
-    (took-done taken (e .end-first .result) _ (stopped e .took) (omega (arith, stopped e .few))))
+    (took-done taken (e .end-first .result) _ (stopped e .took) (omega (arith, stopped e .few)))) (fits g)
 
 pub vradomil-interrupt-spec : {M : Type 1} → statement M
 vradomil-interrupt-spec =

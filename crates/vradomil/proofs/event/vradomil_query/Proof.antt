@@ -53,11 +53,14 @@ returns c =
     let b = now (g .args .tables) in
     let p = g .args .process in
     let ok = k .sound .ensures .answer in
-    by-cases (j .if1 .came)
-    (λ w. ap (λ n. packed (panelOf n)) (w .2 ∙ w .1 .ensures
-    ∙ ap (waitingSet p) (sym (k .sound .ensures .held (and-left (k .sound .result) (ltb p processes) (w .0 .taken)) .tables))
-    ∙ shown (tablesAt b) p (ap (_&& ltb p processes) (sym ok) ∙ w .0 .taken)))
-    (λ w. ap (λ n. packed (panelOf n)) (w .1 ∙ hidden (tablesAt b) p (ap (_&& ltb p processes) (sym ok) ∙ w .0 .left)))
+    record {
+      number = by-cases (j .if1 .came)
+          (λ w. ap (λ n. packed (panelOf n)) (w .2 ∙ w .1 .ensures
+          ∙ ap (waitingSet p) (sym (k .sound .ensures .held (and-left (k .sound .result) (ltb p processes) (w .0 .taken)) .tables))
+          ∙ shown (tablesAt b) p (ap (_&& ltb p processes) (sym ok) ∙ w .0 .taken)))
+          (λ w. ap (λ n. packed (panelOf n)) (w .1 ∙ hidden (tablesAt b) p (ap (_&& ltb p processes) (sym ok) ∙ w .0 .left)));
+      fits = search needs;
+    }
 
 pub vradomil-query-spec : {M : Type 1} → statement M
 vradomil-query-spec =

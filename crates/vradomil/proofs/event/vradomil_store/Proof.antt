@@ -17,7 +17,7 @@ use Rattle.rules.specs.Calls.{noProcess}
 use Rattle.rules.specs.Events.{ownRows, refusals, effect}
 use Rattle.rules.proofs.Rows.{pass-clear}
 use Rattle.layout.specs.Layout.{wordsAt, wordsBytes}
-use Rattle.vradomil.specs.Host.{seen}
+use Rattle.vradomil.specs.Host.{seen, EventFits}
 use Rattle.vradomil.proofs.Memory.{word-written}
 use Rattle.vradomil.proofs.Steps.{read-back, event-refused, event-passed, changes-words-refused, number-passed, words-passed}
 use Rattle.commands.proofs.Places.{word-below, word-there}
@@ -30,6 +30,9 @@ start c = c .before .before .before .before
 
 abbrev event : tie.Start → Event
 event g = Store (g .args .process) (g .args .address) (g .args .value)
+
+fits : (g : tie.Start) → EventFits (event g)
+fits g = search needs
 
 own-verdict : (c : tie.After-row3) → let g = start (c .before .before .before .before .before) in c .row3 .result ≡ first (ownRows (event g) (seen (now (g .args .tables)) (now (g .args .words))))
 own-verdict c =
@@ -92,7 +95,7 @@ returns c =
     let l = c .before .before .before .before in
     let g = start l in
     changes-words-refused (event g) (now (g .args .tables)) (now (g .args .words)) _ _ (event-refused (event g) (now (g .args .tables)) (now (g .args .words)) (l .judge-buffers .result) (l .judge-buffers .ensures) refl _ (c .before .before .v .given .1))
-    (read-back (c .refusal .ensures))
+    (read-back (c .refusal .ensures)) (fits g)
 
 same-length-2 : tie.Need-same-length-2
 same-length-2 c = search needs
@@ -102,7 +105,7 @@ returns-2 c =
     let r = c .before .before .before .before in
     let g = start (r .before .before .before .before .before) in
     changes-words-refused (event g) (now (g .args .tables)) (now (g .args .words)) _ _ (sym (verdict r) ∙ c .before .before .v2 .given .1)
-    (read-back (c .refusal2 .ensures))
+    (read-back (c .refusal2 .ensures)) (fits g)
 
 same-length-3 : tie.Need-same-length-3
 same-length-3 c = search needs
@@ -127,6 +130,7 @@ returns-3 c =
       number = number-passed (event g) b m _ h refl;
       bytes = words-passed (event g) b m _ h refl _
           (p .put-u32 .ensures ∙ word-written memoryWords m (i .word-index .result) (g .args .value) long low (word-below _ _ (i .word-index .ensures)) ∙ ap (λ x. wordsBytes (set (wordsAt m) x (g .args .value))) at);
+      fits = fits g;
     }
 
 pub vradomil-store-spec : {M : Type 1} → statement M

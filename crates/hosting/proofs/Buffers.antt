@@ -1,0 +1,126 @@
+-- Any bytes that a host may lend: they stand for words and for tables that keep the rules, or every event but a panel query is refused.
+use mathlib.Core.Path.{_≡_, refl, sym, ap, subst, subst₂, _∙_}
+use mathlib.Core.Logic.{_⊎_, inl, inr}
+use mathlib.Core.Bool.{true, false}
+use mathlib.Core.List.{List, [], _∷_, map}
+use Prim.Native.Nat.{ℕ, _+_, _*_, _^_, _≤_, _<_}
+use native.Mathlib.Omega.{arith}
+use lib.IntN.{ℤ}
+use lib.ListN.{length, drop, length-drop}
+use lib.Dec.{eqb}
+use borrow.Author.Tests.{eqb-true, eqb-false}
+use Rattle.lists.specs.LittleEndian.{Bytes, numberAt}
+use Rattle.lists.proofs.LittleEndian.{le-below, bytes-drop}
+use Rattle.lists.proofs.Tests.{cases, clash}
+use Rattle.tables.specs.Sizes.{threads, wordBytes, memoryWords}
+use Rattle.tables.specs.Tables.{World, tablesOk}
+use Rattle.tables.proofs.Sound.{tables-sound}
+use Rattle.rules.specs.declared.event.Event.{Event}
+use Rattle.rules.specs.declared.answer.Errno.{Errno}
+use Rattle.rules.specs.declared.answer.Errno.the-variants.{ENXIO, EBADF}
+use Rattle.rules.specs.declared.answer.Verdict.the-variants.{Refuse}
+use Rattle.rules.specs.Answers.{Outcome, isRefused}
+use Rattle.rules.specs.Events.{isQuery, step}
+use Rattle.rules.specs.History.{final, answers}
+use Rattle.rules.proofs.Rows.{step-refused}
+use Rattle.layout.specs.Layout.{tablesAt, tablesBytes, stateAt, threadAt, tablesSize, timeBytes, clockAt, uaddrAt, bitsetAt, deadlineAt, memorySize}
+use Rattle.layout.specs.Check.{Held}
+use Rattle.layout.proofs.Reading.{clock-read, thread-read}
+use Rattle.layout.proofs.Exact.{words-exact}
+use Rattle.layout.proofs.Checks.{wrong-size, held}
+use Rattle.changes.specs.Change.{FitsThread, Fits}
+use Rattle.vradomil.specs.Host.{seen, hostNumber, BuffersJudged}
+use Rattle.vradomil.proofs.Memory.{words-length, word-fits}
+use Rattle.vradomil.proofs.FirstRows.{refused-memory, refused-tables}
+use Rattle.vradomil.proofs.Steps.{event-refused}
+use Rattle.hosting.specs.Hosts.{Hosted, called, stored, clocked, interrupted, queried, HostRuns, over, next}
+use Rattle.hosting.proofs.Hosting.{Stand, seen-is, stepped, asked, number-is, refused-stays}
+
+-- numbers of some bytes fit that many
+module _ (b : List ℕ) (size : length b ≡ tablesSize) (low : Bytes b) where
+  number-fits : (w k : ℕ) → k + w ≤ tablesSize → numberAt w k b < 256 ^ w
+  number-fits w k inside = le-below w (drop k b) (omega (arith, length-drop k b, size)) (bytes-drop k b low)
+
+  thread-fits : (i : ℕ) → i < threads → FitsThread (threadAt b i)
+  thread-fits i l =
+      record {
+        uaddr = number-fits wordBytes (uaddrAt + wordBytes * i) (omega arith);
+        bitset = number-fits wordBytes (bitsetAt + wordBytes * i) (omega arith);
+        deadline = number-fits timeBytes (deadlineAt + timeBytes * i) (omega arith);
+      }
+
+  state-fits : Fits (stateAt b)
+  state-fits =
+      record {
+        clock = subst (_< 256 ^ timeBytes) (clock-read b) (number-fits timeBytes clockAt (omega arith));
+        records = λ i l. subst FitsThread (sym (thread-read b i l)) (thread-fits i l);
+      }
+
+-- bytes that the first two rows refuse
+pub record Unfit (b m : List ℕ) : Type 0 where
+  pub errno : Errno
+  pub judged : BuffersJudged b m (Refuse errno)
+
+abbrev pub Lent : List ℕ → List ℕ → Type 0
+Lent b m = Stand b m (seen b m) ⊎ Unfit b m
+
+module _ (b m : List ℕ) (lb : Bytes b) (lm : Bytes m) where
+  fit : length m ≡ memorySize → Held b → Stand b m (seen b m)
+  fit size h =
+      record {
+        tables = h .bytes ∙ ap tablesBytes (sym (h .tables));
+        words = words-exact memoryWords m size lm;
+        valid = record { memory = words-length memoryWords m size; sound = tables-sound (tablesAt b) (ap tablesOk (h .tables) ∙ h .sound) };
+        fits = record { state = subst Fits (sym (h .tables)) (state-fits b (h .size) lb); words = word-fits memoryWords m size lm };
+      }
+
+  held-if : tablesOk (tablesAt b) ≡ true → Held b
+  held-if ok = cases (eqb (length b) tablesSize)
+      (λ e. held b (eqb-true (length b) tablesSize e) lb ok)
+      (λ e. clash (tablesOk (tablesAt b)) ok (wrong-size b (eqb-false (length b) tablesSize e)))
+
+  pub lent : Lent b m
+  lent = cases (eqb (length m) memorySize)
+      (λ e. let size = eqb-true (length m) memorySize e in
+      cases (tablesOk (tablesAt b)) (λ ok. inl (fit size (held-if ok))) (λ bad. inr (record { errno = EBADF; judged = refused-tables b m size bad })))
+      (λ e. inr (record { errno = ENXIO; judged = refused-memory b m (eqb-false (length m) memorySize e) }))
+
+-- an event on refused bytes leaves them, and the rules leave the world
+record Same (e : Event) (b m b1 m1 : List ℕ) : Type 0 where
+  tables : b1 ≡ b
+  words : m1 ≡ m
+  world : step e (seen b m) .world ≡ seen b m
+
+module _ {b m : List ℕ} (u : Unfit b m) where
+  refused : {e : Event} {b1 m1 : List ℕ} {r : ℤ} → isQuery e ≡ false → Hosted e b m r b1 m1 → Same e b m b1 m1
+  refused {e} some h =
+      let is = step-refused e (seen b m) (u .errno) (event-refused e b m (Refuse (u .errno)) (u .judged) some (u .errno) refl) in
+      let stays = refused-stays h (ap (λ (o : Outcome). isRefused (o .answer)) is) in
+      record { tables = stays .0; words = stays .1; world = ap (λ (o : Outcome). o .world) is }
+
+  same : {e : Event} {b1 m1 : List ℕ} {r : ℤ} → Hosted e b m r b1 m1 → Same e b m b1 m1
+  same (called h) = refused refl (called h)
+  same (stored h) = refused refl (stored h)
+  same (clocked h) = refused refl (clocked h)
+  same (interrupted h) = refused refl (interrupted h)
+  same (queried {p} h) = record { tables = refl; words = refl; world = asked p (seen b m) }
+
+-- one event: the bytes that it leaves stand for what the rules leave
+after : {e : Event} {b m b1 m1 : List ℕ} {r : ℤ} → Lent b m → Hosted e b m r b1 m1 → (seen b1 m1 ≡ step e (seen b m) .world) × Lent b1 m1
+after {e} {b} {m} {b1} {m1} (inl s) h =
+    let stand = stepped b m s h in
+    let is = seen-is b1 m1 (step e (seen b m) .world) stand in
+    (is, inl (subst (Stand b1 m1) (sym is) stand))
+after (inr u) h =
+    let k = same u h in
+    ((λ j. seen (k .tables j) (k .words j)) ∙ sym (k .world), inr (subst₂ Unfit (sym (k .tables)) (sym (k .words)) u))
+
+-- a whole history
+pub ran : {h : List Event} {b m b2 m2 : List ℕ} {rs : List ℤ} → HostRuns h b m rs b2 m2 → Lent b m
+    → (rs ≡ map hostNumber (answers h (seen b m))) × (seen b2 m2 ≡ final h (seen b m))
+ran over l = (refl, refl)
+ran (next {es = es} h run) l =
+    let one = after l h in
+    let rest = ran run (one .1) in
+    let numbers = rest .0 ∙ ap (λ w. map hostNumber (answers es w)) (one .0) in
+    (λ j. number-is h j ∷ numbers j, rest .1 ∙ ap (final es) (one .0))
