@@ -1,13 +1,30 @@
 -- Texts written one behind the other.
-use mathlib.Core.Path.{_≡_, refl, ap, _∙_, subst}
-use mathlib.Core.List.{List, [], _∷_, _++_}
-use Prim.Native.Nat.{ℕ, _+_, _≤_}
+use mathlib.Core.Path.{_≡_, refl, ap, sym, _∙_, subst}
+use mathlib.Core.List.{List, [], _∷_, _++_, append-assoc, append-nil}
+use Prim.Native.Nat.{ℕ, _+_, _-_, _≤_}
 use native.Mathlib.Omega.{arith}
 use native.Mathlib.Numerals.{add-one}
-use lib.ListN.{set, length-append}
-use lib.Seq.{sets}
+use lib.ListN.{length, set, take, drop, length-append, length-drop, drop-of-length-le}
+use lib.Seq.{sets, sets-eq, take-all, drop-drop}
+use borrow.Rule.Slice.PartMut.{midOf, putMid}
 use Rattle.lists.proofs.Stores.{sets-append}
 use Rattle.text.specs.Text.{Puts}
+
+-- a text copied to the start of what is left from k on, as bytes::copy leaves that part
+pub puts-copied : (text before part : List ℕ) (k n : ℕ) → n ≡ length text → k + length text ≤ length before
+    → part ≡ take (length text) text ++ drop (length text) (midOf k (length before - k) before)
+    → Puts (length text) k text before (k + n) (putMid k (length before - k) before part)
+puts-copied text before part k n all room copied =
+    let m = length before - k in
+    let j = length text in
+    let whole : midOf k m before ≡ drop k before = take-all m (drop k before) (rw length-drop (omega arith)) in
+    let none : drop m (drop k before) ≡ [] = drop-of-length-le (drop k before) {i = m} (rw length-drop (omega arith)) in
+    let bytes : part ≡ text ++ drop (k + j) before = copied ∙ rw (whole, take-all j text (omega arith), drop-drop j k before) in
+    record {
+      next = omega arith;
+      within = omega arith;
+      bytes = rw (bytes, none, append-nil) (sym (append-assoc (take k before) text (drop (k + j) before))) ∙ sym (sets-eq text before k room);
+    }
 
 -- a text behind a text
 pub puts-append : {room more k : ℕ} {text next before : List ℕ} {j r : ℕ} {mid after : List ℕ} → Puts room k text before j mid → Puts more j next mid r after

@@ -1,9 +1,8 @@
 // Text: numbers and answers as lines of text, written into a lent slice. It stands on rules.
 ghost use mathlib.Core.Path.{_≡_};
 ghost use Prim.Native.Nat.{_+_, _≤_};
-ghost use lib.ListN.{length, take};
-ghost use lib.Seq.{sets};
-ghost use Rattle.text.specs.Text.{mostDigits, wordDigits, decimal, countLine, refusalLine, lineOf, lineRoom, Puts};
+ghost use lib.ListN.{length};
+ghost use Rattle.text.specs.Text.{wordDigits, decimal, countLine, refusalLine, lineOf, lineRoom, Puts};
 use rules::answer::Answer;
 
 // The most digits of a number of 64 bits: io::decimal's room.
@@ -19,42 +18,13 @@ const WORD_DIGITS: usize = 10;
 // No line is longer than a minus sign, these digits and the line end.
 pub const LINE_ROOM: usize = 1 + WORD_DIGITS + 1;
 
-// The line of a call that sleeps, and its length.
-const ASLEEP: [u8; DIGITS] = [
-    b'a',
-    b's',
-    b'l',
-    b'e',
-    b'e',
-    b'p',
-    NEWLINE,
-    0,
-    0,
-    0,
-    0,
-    0,
-    0,
-    0,
-    0,
-    0,
-    0,
-    0,
-    0,
-    0,
-];
-
-const ASLEEP_LINE: usize = 7;
-
-// Stores the first n bytes of src at a place.
-fn copy(src: [u8; DIGITS], n: usize, out: &mut [u8], k: usize)
-    requires { ⌜ (n ≤ mostDigits) × (k + n ≤ length (now out)) ⌝ }
-    ensures { λ _. ⌜ now (out .exit) ≡ sets (now (out .entry)) k (take n src) ⌝ }
+// Bytes at a place; the next place.
+fn put(src: &[u8], out: &mut [u8], k: usize) -> usize
+    requires { ⌜ k + length (now src) ≤ length (now out) ⌝ }
+    ensures { λ r. ⌜ Puts (length (now (src .entry))) k (now (src .entry)) (now (out .entry)) r (now (out .exit)) ⌝ }
 {
-    let mut i: usize = 0;
-    while i < n {
-        out[k + i] = src[i];
-        i += 1;
-    }
+    let n = bytes::copy(src, &mut out[k..]);
+    k + n
 }
 
 // A number's decimal digits at a place; the next place.
@@ -64,8 +34,7 @@ fn put_decimal(v: u32, out: &mut [u8], k: usize) -> usize
 {
     let mut d = [0u8; DIGITS];
     let n = io::decimal(v as u64, &mut d);
-    copy(d, n, out, k);
-    k + n
+    put(&d[..n], out, k)
 }
 
 // A number's line at a place; the next place.
@@ -93,10 +62,7 @@ pub fn put_line(a: Answer, out: &mut [u8], k: usize) -> usize
     ensures { λ r. ⌜ Puts lineRoom k (lineOf a) (now (out .entry)) r (now (out .exit)) ⌝ }
 {
     match a {
-        Answer::Asleep => {
-            copy(ASLEEP, ASLEEP_LINE, out, k);
-            k + ASLEEP_LINE
-        }
+        Answer::Asleep => put(b"asleep\n", out, k),
         Answer::Count(n) => put_count(n, out, k),
         Answer::Refused(x) => {
             let n = x.number();

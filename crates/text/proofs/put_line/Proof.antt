@@ -1,4 +1,4 @@
-use mathlib.Core.Path.{refl, ap}
+use mathlib.Core.Path.{ap}
 use native.Mathlib.Omega.{arith}
 use borrow.Author.Needs.{needs}
 use Rattle.text.specs.Text.{lineRoom, refusalLine, lineOf}
@@ -9,11 +9,11 @@ use Rattle.text.proofs.put_line.Tie as tie
 enum-told : tie.Need-enum-told
 enum-told c = search needs
 
-copy-requires : tie.Need-copy-requires
-copy-requires c κs = search needs
+slice-aggregate-put : tie.Need-slice-aggregate-put
+slice-aggregate-put c = search needs
 
-add-result : tie.Need-add-result
-add-result c = search needs
+put-requires : tie.Need-put-requires
+put-requires c κs = search needs
 
 enum-known-a : tie.Need-enum-known-a
 enum-known-a c = search needs
@@ -40,8 +40,7 @@ returns : tie.Need-returns
 unfolding lineOf
 returns c =
     let p = c .before .before in
-    let told = p .before .before .enum-told .given .1 in
-    rw told (record { next = refl; within = omega arith; bytes = p .copy .ensures })
+    rw (p .before .before .before .enum-told .given .1) (puts-within lineRoom (omega (arith, p .put .ensures .within)) (p .put .ensures))
 
 same-length-2 : tie.Need-same-length-2
 same-length-2 c = search needs
@@ -71,8 +70,8 @@ put-line-spec =
     tie.close
     (tie.spec
     enum-told
-    copy-requires
-    add-result
+    slice-aggregate-put
+    put-requires
     enum-known-a
     put-count-requires
     enum-known-a-2
