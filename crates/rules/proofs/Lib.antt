@@ -14,5 +14,8 @@ pub mod View
 pub mod Own
 pub mod Other
 pub mod Isolation
+pub mod Histories
+pub mod Numbers
 pub mod Cases
 pub mod Theorems
+pub mod Pinned
