@@ -1,5 +1,5 @@
 -- What is proved of the rules, demand by demand. Each theorem is stated here whole and cites its proof; specs/Claims.antt has the
--- words that the statements use, specs/Cases.antt the twelve cases.
+-- words that the statements use, specs/Cases.antt the cases; Pinned.antt has the laws that fix these words.
 use mathlib.Core.Path.{_≡_, refl, sym, ap, _∙_}
 use mathlib.Core.Bool.{true, false, cond}
 use mathlib.Core.List.{List, [], _∷_, map}
@@ -27,8 +27,8 @@ use Rattle.rules.specs.Events.{refusals, effect, step}
 use Rattle.rules.specs.History.{start, final, keptFor, answersTo}
 use Rattle.rules.specs.Claims.{FirstOf, Clear, Sleeps, sleepsBy, Took, Takes, wokenCount, shiftedCount, countsMoves, NamedAlike, Fate, asleepThere, sleptThrough, Since, Alike}
 use Rattle.rules.proofs.Rows.{first-of, of-first, verdicts, step-refused, step-clear}
-use Rattle.rules.specs.Cases.{twelve, given}
-use Rattle.rules.proofs.Cases.{as-document-01-says}
+use Rattle.rules.specs.Cases.{twelve, further, given, shares, shareOf, unsounds, unsoundGiven}
+use Rattle.rules.proofs.Cases as Cases
 use Rattle.tables.proofs.Sound.{tables-sound, sound-tables, none-overdue}
 use Rattle.rules.proofs.Refused.{refused-row}
 use Rattle.rules.proofs.Preserved.{step-valid, final-valid, start-valid}
@@ -168,7 +168,19 @@ no-lost-wake c w n wake answer enough h t own asleep =
 
 -- The twelve cases of document 01, P1 to P12, come out as it says.
 pub twelve-cases : map given twelve ≡ twelve
-twelve-cases = as-document-01-says
+twelve-cases = Cases.as-document-01-says
+
+-- So do cases of the other events and of the answers that the twelve do not give, with every last answer of an ended sleep,
+pub further-cases : map given further ≡ further
+further-cases = Cases.further-given
+
+-- what each process is answered and what is kept for it of one history of several,
+pub mixed-history : map shareOf shares ≡ shares
+mixed-history = Cases.shares-given
+
+-- and memory of a wrong length and broken tables: -6 and -9 to every event but a panel query.
+pub unsound-worlds : map unsoundGiven unsounds ≡ unsounds
+unsound-worlds = Cases.unsounds-given
 
 -- The tables.
 
