@@ -14,6 +14,8 @@ pub mod View
 pub mod Own
 pub mod Other
 pub mod Isolation
+pub mod Determined
+pub mod Alike
 pub mod Histories
 pub mod Numbers
 pub mod Cases
