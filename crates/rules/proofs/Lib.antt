@@ -9,6 +9,7 @@ pub mod Took
 pub mod Taken
 pub mod Local
 pub mod Fate
+pub mod Requeued
 pub mod LostWake
 pub mod View
 pub mod Own
