@@ -19,6 +19,8 @@ pub mod Determined
 pub mod Alike
 pub mod Histories
 pub mod Numbers
+pub mod Slept
+pub mod Fates
 pub mod Cases
 pub mod Theorems
 pub mod Pinned
