@@ -24,7 +24,7 @@ use Rattle.rules.specs.Claims.{Sleeps, wokenBy, movedBy, before, after, 
 use Rattle.rules.proofs.Chosen.{candidate, released-pass, moved-pass, second-pass, atFirst, atSecond}
 
 -- who is released or moved waits
-candidate-waits : (q : Thread → Bool) (p a : ℕ) (s : State) (t : ℕ) → candidate q p a s t ≡ true → threadOf s t .waiting ≡ true
+pub candidate-waits : (q : Thread → Bool) (p a : ℕ) (s : State) (t : ℕ) → candidate q p a s t ≡ true → threadOf s t .waiting ≡ true
 candidate-waits q p a s t h =
     let r = threadOf s t in
     and-left (r .waiting) (eqb (r .uaddr) a) (and-right (eqb (processOf t) p) (r .waiting && eqb (r .uaddr) a) (and-right (q r) (sleepsAt p a s t) h))

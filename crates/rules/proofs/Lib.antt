@@ -21,6 +21,8 @@ pub mod Histories
 pub mod Numbers
 pub mod Slept
 pub mod Fates
+pub mod Order
+pub mod Counts
 pub mod Cases
 pub mod Theorems
 pub mod Pinned
