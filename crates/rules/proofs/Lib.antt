@@ -20,6 +20,7 @@ pub mod Alike
 pub mod Histories
 pub mod Numbers
 pub mod Slept
+pub mod Elsewhere
 pub mod Fates
 pub mod Order
 pub mod Counts

@@ -34,16 +34,16 @@ use Rattle.rules.proofs.Taken.{takes-first}
 use Rattle.rules.proofs.Histories.{final-append}
 use Rattle.rules.proofs.LostWake.{starts-asleep}
 
-module _ (t a : ℕ) where
-  -- the record of who called a wait that sleeps
-  sleeper : (c : Call) (w : World) → Sleeps c w → threadOf (step (CallEvent c) w .world .state) (caller c) ≡ sleepsBy c w (threadOf (w .state) (caller c))
-  unfolding fallAsleep
-  sleeper c w s =
-      let low = caller-below c (s .process) (s .index) in
-      let size = tables-sound (w .state) (s .tables) .records in
-      ap (λ v. threadOf (v .state) (caller c)) (asleep-leaves c w (sleeps-asleep c w s))
-      ∙ change-named (sleepsBy c w) (caller c ∷ []) (w .state .threads) (caller c) (running NoneYet) (rw (eqb-refl (caller c))) (omega arith)
+-- the record of who called a wait that sleeps
+pub sleeper : (c : Call) (w : World) → Sleeps c w → threadOf (step (CallEvent c) w .world .state) (caller c) ≡ sleepsBy c w (threadOf (w .state) (caller c))
+unfolding fallAsleep
+sleeper c w s =
+    let low = caller-below c (s .process) (s .index) in
+    let size = tables-sound (w .state) (s .tables) .records in
+    ap (λ v. threadOf (v .state) (caller c)) (asleep-leaves c w (sleeps-asleep c w s))
+    ∙ change-named (sleepsBy c w) (caller c ∷ []) (w .state .threads) (caller c) (running NoneYet) (rw (eqb-refl (caller c))) (omega arith)
 
+module _ (t a : ℕ) where
   -- who is moved sleeps at the first word
   mover : (c : Call) (w : World) → elem t (moved (commandOf (c .op)) c (w .state)) ≡ true → asleepThere t (c .uaddr) w ≡ true
   mover c w on =
