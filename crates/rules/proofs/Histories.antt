@@ -1,5 +1,5 @@
 -- A history with one event more: what it leaves, what it is answered, and what of it is a process's.
-use mathlib.Core.Path.{_≡_, refl, ap, _∙_}
+use mathlib.Core.Path.{_≡_, refl, sym, ap, _∙_}
 use mathlib.Core.Bool.{Bool, true, false, cond, _||_, or-false}
 use mathlib.Core.List.{List, [], _∷_, _++_}
 use Prim.Native.Nat.{ℕ}
@@ -40,12 +40,13 @@ pub answers-in-order : (p : ℕ) (g : List Event) (e : Event) (w : World)
 answers-in-order p g e w =
     rw (answers-append g (e ∷ []) w) (entries-last p g e (answers g w) (step e (final g w) .answer) (length-answers g w))
 
-kept-one : (p : ℕ) (e : Event) → keptFor p (e ∷ []) ≡ cond (belongs p e || isClock e) (e ∷ []) []
-kept-one p (CallEvent c) = rw (or-false (eqb (c .process) p))
-kept-one p (Store q a v) = rw (or-false (eqb q p))
-kept-one p (Clock now) = refl
-kept-one p (Interrupt q i) = rw (or-false (eqb q p))
-kept-one p (Query q) = rw (or-false (eqb q p))
+-- kept is what is the process's own, and the clock's
+pub kept-is : (p : ℕ) (e : Event) → isKept p (named e) ≡ (belongs p e || isClock e)
+kept-is p (CallEvent c) = sym (or-false (eqb (c .process) p))
+kept-is p (Store q a v) = sym (or-false (eqb q p))
+kept-is p (Clock now) = refl
+kept-is p (Interrupt q i) = sym (or-false (eqb q p))
+kept-is p (Query q) = sym (or-false (eqb q p))
 
 pub kept-last : (p : ℕ) (g : List Event) (e : Event) → keptFor p (g ++ e ∷ []) ≡ keptFor p g ++ cond (belongs p e || isClock e) (e ∷ []) []
-kept-last p g e = filter-append (λ d. isKept p (named d)) g (e ∷ []) ∙ ap (keptFor p g ++_) (kept-one p e)
+kept-last p g e = filter-append (λ d. isKept p (named d)) g (e ∷ []) ∙ ap (λ b. keptFor p g ++ cond b (e ∷ []) []) (kept-is p e)
