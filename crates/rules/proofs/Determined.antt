@@ -11,21 +11,18 @@ use Rattle.rules.specs.declared.event.Call.{Call}
 use Rattle.tables.specs.Tables.{World, threadOf, arrivals}
 use Rattle.rules.specs.Claims.{Took, Takes}
 
-pub took-fixes : {a : LastAnswer} {out on : List ℕ} {target : ℕ} {s u v : State} → Took a out on target s u → Took a out on target s v
-    → ((t : ℕ) → threadOf u t ≡ threadOf v t) × (arrivals u ≡ arrivals v)
-took-fixes {out = out} {on = on} g h = (
-  (λ t. cases (elem t out)
+module _ {a : LastAnswer} {out on : List ℕ} {target : ℕ} {s u v : State} (g : Took a out on target s u) (h : Took a out on target s v) where
+  pub took-records : (t : ℕ) → threadOf u t ≡ threadOf v t
+  took-records t = cases (elem t out)
       (λ e. g .ran t e ∙ sym (h .ran t e))
-      (λ e. cases (elem t on)
-      (λ d. g .went t d ∙ sym (h .went t d))
-      (λ d. g .stayed t e d ∙ sym (h .stayed t e d)))),
-  g .order ∙ sym (h .order),
-)
+      (λ e. cases (elem t on) (λ d. g .went t d ∙ sym (h .went t d)) (λ d. g .stayed t e d ∙ sym (h .stayed t e d)))
+
+  pub took-order : arrivals u ≡ arrivals v
+  took-order = g .order ∙ sym (h .order)
 
 pub takes-fixes : {k : Command} {c : Call} {w u v : World} → Takes k c w u → Takes k c w v
     → ((t : ℕ) → threadOf (u .state) t ≡ threadOf (v .state) t) × (arrivals (u .state) ≡ arrivals (v .state))
     × (u .state .clock ≡ v .state .clock)
     × (u .words ≡ v .words)
 takes-fixes g h =
-    let same = took-fixes (g .took) (h .took) in
-    (same .0, same .1, g .clock ∙ sym (h .clock), g .words ∙ sym (h .words))
+    (took-records (g .took) (h .took), took-order (g .took) (h .took), g .clock ∙ sym (h .clock), g .words ∙ sym (h .words))

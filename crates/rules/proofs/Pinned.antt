@@ -172,7 +172,7 @@ clear-exactly rs = (clear-pass rs, pass-clear rs)
 -- Wakes and requeues: what was taken fixes every record and the order of the list afterwards,
 pub took-fixes : {a : LastAnswer} {out on : List ℕ} {target : ℕ} {s u v : State} → Took a out on target s u → Took a out on target s v
     → ((t : ℕ) → threadOf u t ≡ threadOf v t) × (arrivals u ≡ arrivals v)
-took-fixes = Determined.took-fixes
+took-fixes g h = (Determined.took-records g h, Determined.took-order g h)
 
 -- and, of a call, the clock and the words.
 pub takes-fixes : {k : Command} {c : Call} {w u v : World} → Takes k c w u → Takes k c w v

@@ -32,7 +32,6 @@ use Rattle.rules.proofs.Chosen.{moved-pass, atFirst}
 use Rattle.rules.proofs.Sleeps.{sleeps-asleep, asleep-leaves}
 use Rattle.rules.proofs.Taken.{takes-first}
 use Rattle.rules.proofs.Histories.{final-append}
-use Rattle.rules.proofs.LostWake.{starts-asleep}
 
 -- the record of who called a wait that sleeps
 pub sleeper : (c : Call) (w : World) → Sleeps c w → threadOf (step (CallEvent c) w .world .state) (caller c) ≡ sleepsBy c w (threadOf (w .state) (caller c))
@@ -71,7 +70,8 @@ module _ (t a : ℕ) where
   entered-by e w (byRequeue c n is count m own at on) = inr (c, n, is, count, own, at, mover c w on)
 
   pub slept-at : (h : List Event) (w : World) → sleptThrough t a h w ≡ true → (n : ℕ) → asleepThere t a (final (take n h) w) ≡ true
-  slept-at h w s zero = starts-asleep t a h w s
+  slept-at [] w s zero = s
+  slept-at (e ∷ es) w s zero = and-left (asleepThere t a w) (sleptThrough t a es (step e w .world)) s
   slept-at [] w s (suc n) = s
   slept-at (e ∷ es) w s (suc n) = slept-at es (step e w .world) (and-right (asleepThere t a w) (sleptThrough t a es (step e w .world)) s) n
 
