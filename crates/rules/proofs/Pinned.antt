@@ -1,10 +1,10 @@
 -- Laws that fix the words in which the theorems speak: each says, of a definition in specs/, what only the right one meets.
 use mathlib.Core.Path.{_≡_, refl, ap, _∙_}
 use mathlib.Core.Bool.{true, false, not, cond, _&&_, _||_}
-use mathlib.Core.List.{List, [], _∷_, _++_}
+use mathlib.Core.List.{List, [], _∷_, _++_, map}
 use mathlib.Core.Logic.{_⊎_, _↔_}
 use Prim.Native.Nat.{ℕ, _*_, _/_}
-use lib.ListN.{length, take, drop}
+use lib.ListN.{length, take, drop, replicate}
 use lib.Dec.{eqb, ltb}
 use lib.Count.{ones, trailingZeros}
 use lib.IntN.{pos, negℤ}
@@ -33,6 +33,7 @@ use Rattle.rules.specs.Calls.{wrongMemory, brokenTables, noProcess, noTh
 use Rattle.rules.specs.Events.{refusals, effect, step, clockEffect, interruptEffect, waitingSet, panel}
 use Rattle.rules.specs.History.{start, final, answers, isClock, belongs, keptFor, entriesOf, answersTo}
 use Rattle.rules.specs.Claims.{FirstOf, Clear, Sleeps, Took, Takes, wokenBy, movedBy, woke, shifted, countsMoves, SameSleepers, NamedAlike, before, after, asleepThere, Enters, sleptThrough, Since, Alike}
+use Rattle.rules.specs.Cases.{Case, sleepers, endedFrom, given, Share, mixed, shareOf, Unsound, each, unsoundGiven}
 use Rattle.tables.proofs.Sound.{tables-sound}
 use Rattle.rules.proofs.Rows.{first-of, of-first, pass-clear, clear-pass}
 use Rattle.rules.proofs.Preserved.{Valid}
@@ -298,3 +299,22 @@ alike-next p u v lu ou lv ov time same e =
       (λ k. Alike′.alike-kept p u v g h time same e (Histories.kept-is p e ∙ k)),
       (λ k. Alike′.alike-other p e u (Histories.kept-is p e ∙ k)),
     )
+
+-- The tables of cases: what stands in them is what the rules give, and not what is expected.
+pub case-given : (r : Case) → let w = start (replicate 8192 0) in let v = final (r .happens) w in
+    given r
+    ≡ record {
+      happens = r .happens;
+      answers = map answerNumbers (answers (r .happens) w);
+      sleep = sleepers (v .state);
+      ended = endedFrom 0 (v .state .threads);
+      word = wordAt v 0 8;
+    }
+case-given r = refl
+
+pub share-given : (s : Share) → let w = start (replicate 8192 0) in
+    shareOf s ≡ record { process = s .process; kept = keptFor (s .process) mixed; answers = map answerNumbers (answersTo (s .process) mixed w) }
+share-given s = refl
+
+pub unsound-given : (u : Unsound) → unsoundGiven u ≡ record { world = u .world; answers = map answerNumbers (answers each (u .world)) }
+unsound-given u = refl

@@ -14,8 +14,7 @@ use Rattle.rules.specs.declared.event.Event.the-variants.{Call, Store, C
 use Rattle.tables.specs.Sizes.{memoryWords, threads, threadsPerProcess, matchAny, noEntry}
 use Rattle.tables.specs.Tables.{World, world, running, threadOf, arrivals, wordAt}
 use Rattle.rules.specs.Answers.{answerNumbers, lastNumber}
-use Rattle.rules.specs.Events.{step}
-use Rattle.rules.specs.History.{start, final, answersTo, keptFor}
+use Rattle.rules.specs.History.{start, final, answers, answersTo, keptFor}
 
 -- the words are of process 0, and most cases use the one at this address
 abbrev address : ℕ
@@ -159,11 +158,10 @@ further =
 
 -- what the rules give
 
-abbrev told : List Event → World → List (List ℤ)
-told [] w = []
-told (e ∷ es) w = answerNumbers (step e w .answer) ∷ told es (step e w .world)
+abbrev pub told : List Event → World → List (List ℤ)
+told h w = map answerNumbers (answers h w)
 
-abbrev sleepers : State → List Sleeper
+abbrev pub sleepers : State → List Sleeper
 sleepers s = map (λ t. let r = threadOf s t in record { number = t; uaddr = r .uaddr; bitset = r .bitset; timed = r .timed; deadline = r .deadline }) (arrivals s)
 
 -- the sleeps that have ended, of the threads from number n on
@@ -173,7 +171,7 @@ endedAs Woken t = endedSleep t (lastNumber Woken) ∷ []
 endedAs TimedOut t = endedSleep t (lastNumber TimedOut) ∷ []
 endedAs Interrupted t = endedSleep t (lastNumber Interrupted) ∷ []
 
-abbrev endedFrom : ℕ → List Thread → List EndedSleep
+abbrev pub endedFrom : ℕ → List Thread → List EndedSleep
 endedFrom n [] = []
 endedFrom n (r ∷ rs) = endedAs (r .last) n ++ endedFrom (suc n) rs
 
@@ -193,7 +191,7 @@ sleep1 = callOf 1 1 0 address 0 1 5 0 0
 abbrev wake1 : Event
 wake1 = callOf 1 0 1 address 1 0 0 0 0
 
-abbrev mixed : List Event
+abbrev pub mixed : List Event
 mixed = sleep0 ∷ sleep1 ∷ Store 9 address 1 ∷ Query 0 ∷ Clock 5 ∷ wake1 ∷ Interrupt 0 1 ∷ Query 9 ∷ Query 1 ∷ Clock 4 ∷ []
 
 -- what of it is a process's: the events that are kept for it, and what its own were answered
@@ -220,7 +218,7 @@ shareOf s = share (s .process) (keptFor (s .process) mixed) (map answerNumbers (
 abbrev brokenCount : State
 brokenCount = record { clock = 0; threads = replicate threads (running NoneYet); list = replicate threads noEntry; count = 1 }
 
-abbrev each : List Event
+abbrev pub each : List Event
 each = waitFor 0 address 0 ∷ Store 0 address 1 ∷ Clock 1 ∷ Interrupt 0 0 ∷ Query 0 ∷ []
 
 pub record Unsound : Type 0 where
