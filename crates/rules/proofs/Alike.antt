@@ -1,6 +1,6 @@
 -- Worlds in which a process finds the same: its words, records and sleepers, in their order, are the same lists; and its next event is answered
 -- the same in both, and leaves worlds in which it finds the same again.
-use mathlib.Core.Path.{_≡_, refl, sym, ap, _∙_}
+use mathlib.Core.Path.{_≡_, sym, ap, _∙_}
 use mathlib.Core.Bool.{true, false, cond}
 use mathlib.Core.List.{List}
 use mathlib.Core.Logic.{_↔_}
@@ -12,19 +12,16 @@ use borrow.Author.Tests.{eqb-true}
 use Rattle.lists.specs.Lists.{filter}
 use Rattle.lists.proofs.Tests.{cases}
 use Rattle.lists.proofs.Update.{update-alike}
-use Rattle.tables.specs.declared.State.{State}
-use Rattle.tables.specs.declared.Thread.{Thread}
 use Rattle.tables.specs.declared.LastAnswer.the-variants.{NoneYet}
 use Rattle.rules.specs.declared.event.Event.{Event}
-use Rattle.tables.specs.Sizes.{threads, threadsPerProcess, wordsPerProcess, wordBytes, memoryWords}
+use Rattle.tables.specs.Sizes.{threadsPerProcess, wordsPerProcess, wordBytes}
 use Rattle.tables.specs.Tables.{World, threadNumber, running, threadOf, arrivals}
 use Rattle.rules.specs.Answers.{Outcome}
 use Rattle.rules.specs.Events.{step}
 use Rattle.rules.specs.History.{named, isKept, belongs}
 use Rattle.rules.specs.Claims.{Alike}
 use Rattle.rules.proofs.Preserved.{Valid}
-use Rattle.rules.proofs.View.{ownThread, ownWord, onlyOwn, viewState, view, view-state, view-clock}
-use Rattle.rules.proofs.Own.{viewOut}
+use Rattle.rules.proofs.View.{ownThread, viewState, view, view-state, view-clock}
 use Rattle.rules.proofs.Isolation.{own-step, kept-step, struck-step, alike, words-alike}
 
 -- the n elements from place k on

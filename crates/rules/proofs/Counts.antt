@@ -1,7 +1,7 @@
 -- A count is at most the number of threads: no thread is counted twice.
 use mathlib.Core.Path.{_≡_, refl, sym}
-use mathlib.Core.Bool.{Bool, true, false, not, cond, _&&_}
-use Prim.Native.Nat.{ℕ, zero, suc, _+_, _≤_, _<_}
+use mathlib.Core.Bool.{Bool, true, false, not, _&&_}
+use Prim.Native.Nat.{ℕ, zero, suc, _+_, _≤_}
 use native.Mathlib.Omega.{arith}
 use lib.Dec.{eqb}
 use borrow.Author.Tests.{eqb-false, ne-eqb, not-true}
@@ -16,7 +16,7 @@ use Rattle.tables.specs.Sizes.{threads}
 use Rattle.tables.specs.Tables.{World, threadOf}
 use Rattle.rules.specs.Commands.{uses}
 use Rattle.rules.specs.Events.{step}
-use Rattle.rules.specs.Claims.{woke, shifted, wokenCount, shiftedCount, countsMoves}
+use Rattle.rules.specs.Claims.{woke, shifted, countsMoves}
 use Rattle.rules.proofs.Taken.{counted}
 
 -- two tests that no number passes both of

@@ -1,8 +1,8 @@
 -- A thread that falls asleep at one word leaves the sleepers at every other as they were.
 use mathlib.Core.Path.{_≡_, refl, sym, ap, _∙_}
-use mathlib.Core.Bool.{true, false, _&&_, and-false}
+use mathlib.Core.Bool.{true, false}
 use mathlib.Core.List.{[], _∷_, _++_, append-nil}
-use Prim.Native.Nat.{ℕ, _<_}
+use Prim.Native.Nat.{ℕ}
 use native.Mathlib.Omega.{arith}
 use lib.Dec.{eqb}
 use borrow.Author.Tests.{eqb-true, ne-eqb}
@@ -16,7 +16,7 @@ use Rattle.tables.specs.declared.LastAnswer.the-variants.{NoneYet}
 use Rattle.rules.specs.declared.event.Command.{Command}
 use Rattle.rules.specs.declared.event.Call.{Call}
 use Rattle.rules.specs.declared.event.Event.the-variants.{Call as CallEvent}
-use Rattle.tables.specs.Tables.{World, processOf, running, threadOf, arrivals, sleepsAt, queue, fallAsleep, withState}
+use Rattle.tables.specs.Tables.{World, processOf, running, threadOf, arrivals, sleepsAt, queue, fallAsleep}
 use Rattle.rules.specs.Calls.{caller}
 use Rattle.rules.specs.Events.{step}
 use Rattle.rules.specs.Claims.{Sleeps, sleepsBy, SameSleepers, NamedAlike}
@@ -29,7 +29,7 @@ module _ (p a : ℕ) (f : Thread → Thread) (t : ℕ) (s : State) (g : Sound s)
   abbrev u : State
   u = fallAsleep f t s
 
-  others-kept : (x : ℕ) → elem x (arrivals s) ≡ true → threadOf u x ≡ threadOf s x
+  pub others-kept : (x : ℕ) → elem x (arrivals s) ≡ true → threadOf u x ≡ threadOf s x
   unfolding fallAsleep
   others-kept x e = cases (elem x (t ∷ []))
       (λ d. clash (threadOf s t .waiting) (ap (λ y. threadOf s y .waiting) (sym (elem-one x t d)) ∙ sym (listed-waiting s g x) ∙ e) runs)

@@ -1,27 +1,26 @@
 -- Whom a cap takes: nobody is overtaken, and as many are taken as the cap and the sleepers allow.
 use mathlib.Core.Path.{_≡_, refl, sym, ap, _∙_}
-use mathlib.Core.Bool.{Bool, true, false, not, cond, _&&_, _||_, or-true}
+use mathlib.Core.Bool.{Bool, true, false, not, _&&_, or-true}
 use mathlib.Core.List.{List, [], _∷_, _++_}
-use Prim.Native.Nat.{ℕ, zero, suc, _+_, _-_, _≤_, min}
+use Prim.Native.Nat.{ℕ, zero, suc, _+_, _-_, min}
 use native.Mathlib.Omega.{arith}
 use lib.ListN.{length, take, drop, length-take, length-drop}
 use lib.Seq.{take-add}
 use lib.Dec.{eqb}
 use Rattle.lists.specs.Lists.{filter, elem, without, countBelow}
-use Rattle.lists.proofs.Tests.{cases, clash, and-intro, and-left, and-right, or-left, or-right, eqb-refl}
+use Rattle.lists.proofs.Tests.{cases, clash, and-intro, or-left, or-right, eqb-refl}
 use Rattle.lists.proofs.Filter.{filter-filter}
 use Rattle.lists.proofs.Occurs.{occurs-filter-le, elem-append, elem-filter, elem-filtered-out}
 use Rattle.lists.proofs.Count.{length-count, countBelow-ext}
 use Rattle.tables.specs.declared.State.{State}
-use Rattle.tables.specs.declared.Thread.{Thread}
 use Rattle.rules.specs.declared.event.Command.{Command}
 use Rattle.rules.specs.declared.event.Call.{Call}
 use Rattle.tables.specs.Sizes.{threads}
-use Rattle.tables.specs.Tables.{World, processOf, wordAt, threadOf, arrivals, sleepsAt}
+use Rattle.tables.specs.Tables.{World, wordAt, threadOf, arrivals, sleepsAt}
 use Rattle.rules.specs.WakeOp.{compares}
 use Rattle.rules.specs.Calls.{secondCap, matches, candidates, released, moved, releasedSecond}
 use Rattle.tables.proofs.Sound.{Sound, once, none-above, listed-waiting}
-use Rattle.rules.proofs.Chosen.{candidate, candidates-are, atFirst, atSecond}
+use Rattle.rules.proofs.Chosen.{candidates-are, atFirst, atSecond}
 use Rattle.rules.proofs.Fates.{candidate-waits}
 
 -- of the first that pass a test: who does not stand before another is not taken without it

@@ -163,6 +163,9 @@ entries-last = Histories.entries-last
 pub kept-last : (p : ℕ) (g : List Event) (e : Event) → keptFor p (g ++ e ∷ []) ≡ keptFor p g ++ cond (belongs p e || isClock e) (e ∷ []) []
 kept-last = Histories.kept-last
 
+pub clock-kept : (p now : ℕ) (g : List Event) → keptFor p (g ++ Clock now ∷ []) ≡ keptFor p g ++ Clock now ∷ []
+clock-kept p now g = kept-last p g (Clock now)
+
 -- Refusals: the first row that applies, and no row.
 pub first-exactly : (x : Errno) (rs : List Row) → FirstOf x rs ↔ (first rs ≡ Refuse x)
 first-exactly x rs = (of-first x rs, first-of x rs)
@@ -211,9 +214,9 @@ pub named-elsewhere : (k : Command) (c d : Call) (w : World) → Sleeps d w
     → NamedAlike k c w (step (CallEvent d) w .world)
 named-elsewhere = Elsewhere.named-elsewhere
 
--- A thread's fate. Who slept and runs was released by a call, reached its deadline or was interrupted, and its last answer says which;
+-- A thread's fate. Who slept and runs was released by a call that was answered a count, reached its deadline or was interrupted, and its last answer says which;
 pub came-back : (e : Event) (w : World) (t : ℕ) → before w t .waiting ≡ true → after e w t .waiting ≡ false
-    → ((c : Call) × (e ≡ CallEvent c) × (elem t (wokenBy (commandOf (c .op)) c w) ≡ true) × (lastNumber (after e w t .last) ≡ pos 0))
+    → ((c : Call) × (n : ℕ) × (e ≡ CallEvent c) × (step e w .answer ≡ Count n) × (elem t (wokenBy (commandOf (c .op)) c w) ≡ true) × (lastNumber (after e w t .last) ≡ pos 0))
     ⊎ ((now : ℕ) × (e ≡ Clock now) × (expired now (before w t) ≡ true) × (lastNumber (after e w t .last) ≡ negℤ (pos 110)))
     ⊎ ((p : ℕ) × (i : ℕ) × (e ≡ Interrupt p i) × (t ≡ threadNumber p i) × (lastNumber (after e w t .last) ≡ negℤ (pos 4)))
 came-back e w t on off = Fates.comes-back e w t on off (fate e w t)
@@ -248,8 +251,8 @@ pub slept-exactly : (t a : ℕ) (h : List Event) (w : World)
     → (sleptThrough t a h w ≡ true) ↔ ((n : ℕ) → asleepThere t a (final (take n h) w) ≡ true)
 slept-exactly t a h w = (Slept.slept-at t a h w, Slept.at-slept t a h w)
 
--- Who enters by a call was awake or elsewhere: it called a wait that slept and saw its number there, or was moved there by a call that was
--- answered a count. It sleeps there afterwards.
+-- Who enters called a wait that sleeps and saw its number there, or slept at the first word of a requeue that was answered a count;
+-- and it sleeps there afterwards.
 pub entered-by : (t a : ℕ) (e : Event) (w : World) → Enters t a e w
     → ((c : Call) × (e ≡ CallEvent c) × (t ≡ caller c) × (c .uaddr ≡ a) × (step e w .answer ≡ Asleep) × (wordAt w (c .process) a ≡ c .val))
     ⊎ ((c : Call) × (n : ℕ) × (e ≡ CallEvent c) × (step e w .answer ≡ Count n) × (c .process ≡ processOf t) × (c .uaddr2 ≡ a) × (asleepThere t (c .uaddr) w ≡ true))

@@ -1,5 +1,5 @@
 -- A requeue that changed anything was answered a count.
-use mathlib.Core.Path.{_≡_, refl, sym, ap, _∙_}
+use mathlib.Core.Path.{_≡_, ap, _∙_}
 use mathlib.Core.Bool.{true, false}
 use Prim.Native.Nat.{ℕ}
 use Rattle.lists.proofs.Tests.{clash, by-cases}

@@ -1,8 +1,8 @@
 -- Asleep at a word since an event: who entered there sleeps there, and has slept there after every event since.
-use mathlib.Core.Path.{_≡_, refl, sym, ap, _∙_}
-use mathlib.Core.Bool.{true, false, _&&_}
+use mathlib.Core.Path.{_≡_, sym, ap, _∙_}
+use mathlib.Core.Bool.{true, _&&_}
 use mathlib.Core.List.{List, [], _∷_}
-use mathlib.Core.Logic.{_⊎_, inl, inr, _↔_}
+use mathlib.Core.Logic.{_⊎_, inl, inr}
 use Prim.Native.Nat.{ℕ, zero, suc}
 use native.Mathlib.Omega.{arith}
 use lib.ListN.{length, take}
@@ -14,17 +14,16 @@ use Rattle.lists.proofs.Tests.{and-intro, and-left, and-right, eqb-refl}
 use Rattle.lists.proofs.Occurs.{elem-all}
 use Rattle.tables.specs.declared.Thread.{Thread}
 use Rattle.tables.specs.declared.LastAnswer.the-variants.{NoneYet}
-use Rattle.rules.specs.declared.event.Command.{Command}
 use Rattle.rules.specs.declared.event.Call.{Call}
 use Rattle.rules.specs.declared.event.Event.{Event}
 use Rattle.rules.specs.declared.event.Event.the-variants.{Call as CallEvent}
 use Rattle.rules.specs.declared.answer.Answer.the-variants.{Asleep, Count}
 use Rattle.tables.specs.Tables.{World, processOf, wordAt, running, threadOf, sleepsAt, fallAsleep}
-use Rattle.rules.specs.Commands.{commandOf, uses}
+use Rattle.rules.specs.Commands.{commandOf}
 use Rattle.rules.specs.Calls.{caller, matches, moved}
 use Rattle.rules.specs.Events.{step}
 use Rattle.rules.specs.History.{final}
-use Rattle.rules.specs.Claims.{Sleeps, sleepsBy, movedBy, asleepThere, Enters, byWait, byRequeue, sleptThrough, Since}
+use Rattle.rules.specs.Claims.{Sleeps, sleepsBy, asleepThere, Enters, byWait, byRequeue, sleptThrough, Since}
 use Rattle.tables.proofs.Changes.{change-named}
 use Rattle.tables.proofs.Sound.{tables-sound}
 use Rattle.rules.proofs.Passed.{caller-below}
