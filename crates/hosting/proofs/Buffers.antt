@@ -2,7 +2,7 @@
 use mathlib.Core.Path.{_≡_, refl, sym, ap, subst, subst₂, _∙_}
 use mathlib.Core.Logic.{_⊎_, inl, inr}
 use mathlib.Core.Bool.{true, false}
-use mathlib.Core.List.{List, [], _∷_, map}
+use mathlib.Core.List.{List, _∷_, map}
 use Prim.Native.Nat.{ℕ, _+_, _*_, _^_, _≤_, _<_}
 use native.Mathlib.Omega.{arith}
 use lib.IntN.{ℤ}
@@ -13,7 +13,7 @@ use Rattle.lists.specs.LittleEndian.{Bytes, numberAt}
 use Rattle.lists.proofs.LittleEndian.{le-below, bytes-drop}
 use Rattle.lists.proofs.Tests.{cases, clash}
 use Rattle.tables.specs.Sizes.{threads, wordBytes, memoryWords}
-use Rattle.tables.specs.Tables.{World, tablesOk}
+use Rattle.tables.specs.Tables.{tablesOk}
 use Rattle.tables.proofs.Sound.{tables-sound}
 use Rattle.rules.specs.declared.event.Event.{Event}
 use Rattle.rules.specs.declared.answer.Errno.{Errno}

@@ -5,13 +5,12 @@ use mathlib.Core.Bool.{_&&_}
 use mathlib.Core.List.{List}
 use Prim.Native.Nat.{ℕ, _≤_, _<_}
 use native.Mathlib.Omega.{arith}
-use lib.ListN.{length, getD, replicate, length-replicate, List·getD-eq-default}
+use lib.ListN.{length, replicate, length-replicate, List·getD-eq-default}
 use lib.Dec.{leb, ltb}
 use borrow.Author.Tests.{ltb-true, ltb-false}
 use Rattle.lists.specs.LittleEndian.{Bytes}
 use Rattle.lists.proofs.Tests.{cases}
 use Rattle.lists.proofs.Filter.{getD-replicated}
-use Rattle.tables.specs.declared.LastAnswer.the-variants.{NoneYet}
 use Rattle.tables.specs.Sizes.{threads, memoryWords}
 use Rattle.tables.specs.Tables.{fresh, freshThread, threadOf}
 use Rattle.rules.specs.History.{start}

@@ -9,12 +9,16 @@ use Rattle.rules.specs.declared.answer.Verdict.{Verdict}
 use Rattle.rules.specs.declared.answer.Verdict.the-variants.{Refuse, Pass}
 use Rattle.rules.specs.declared.answer.Answer.the-variants.{Refused}
 use Rattle.rules.specs.declared.answer.Answered.{Answered}
-use Rattle.rules.specs.Answers.{Outcome, first, answered}
-use Rattle.rules.specs.Events.{refusals, effect}
+use Rattle.rules.specs.Answers.{Outcome, first, answered, answerNumbers}
+use Rattle.rules.specs.Events.{refusals, effect, step}
 use Rattle.tables.specs.Tables.{world}
 use Rattle.kernel.specs.Follows.{Follows}
 use Rattle.rules.specs.Claims.{Clear}
 use Rattle.rules.proofs.Rows.{pass-clear, step-refused, step-passed}
+
+pub follows : (e : Event) (s : State) (ws : List ℕ) (r : Answered) (after : List ℕ) → r ≡ answered (step e (world s ws))
+    → after ≡ step e (world s ws) .world .words → Follows e s ws r after
+follows e s ws r after is words = record { result = is; numbers = ap (λ (a : Answered). answerNumbers (a .answer)) is; words = words }
 
 module _ (e : Event) (s : State) (ws : List ℕ) (v : Verdict) (tested : v ≡ first (refusals e (world s ws))) where
   -- no row applies to an event that is let through
@@ -23,11 +27,11 @@ module _ (e : Event) (s : State) (ws : List ℕ) (v : Verdict) (tested : v ≡ f
 
   pub follows-refused : (r : Answered) (x : Errno) → v ≡ Refuse x → r ≡ record { answer = Refused x; state = s } → Follows e s ws r ws
   follows-refused r x h is =
-      let step = step-refused e (world s ws) x (sym tested ∙ h) in
-      record { result = is ∙ ap answered (sym step); words = ap (λ (o : Outcome). o .world .words) (sym step) }
+      let done = step-refused e (world s ws) x (sym tested ∙ h) in
+      follows e s ws r ws (is ∙ ap answered (sym done)) (ap (λ (o : Outcome). o .world .words) (sym done))
 
   pub follows-passed : (r : Answered) (after : List ℕ) → v ≡ Pass → r ≡ answered (effect e (world s ws))
       → after ≡ effect e (world s ws) .world .words → Follows e s ws r after
   follows-passed r after h is words =
-      let step = step-passed e (world s ws) (sym tested ∙ h) in
-      record { result = is ∙ ap answered (sym step); words = words ∙ ap (λ (o : Outcome). o .world .words) (sym step) }
+      let done = step-passed e (world s ws) (sym tested ∙ h) in
+      follows e s ws r after (is ∙ ap answered (sym done)) (words ∙ ap (λ (o : Outcome). o .world .words) (sym done))

@@ -1,6 +1,7 @@
 -- Demand 3 of the code: it holds of every run of `event::apply`, by that function's contract alone.
 use mathlib.Core.Path.{_≡_, refl, sym, ap, _∙_, subst₂}
-use mathlib.Core.List.{List, _∷_}
+use mathlib.Core.List.{List, [], _∷_}
+use mathlib.Core.Logic.{_↔_}
 use Prim.Native.Nat.{ℕ, _<_}
 use lib.ListN.{length}
 use Rattle.tables.specs.declared.State.{State}
@@ -8,13 +9,15 @@ use Rattle.rules.specs.declared.event.Event.{Event}
 use Rattle.rules.specs.declared.answer.Answer.{Answer}
 use Rattle.rules.specs.declared.answer.Answered.{Answered}
 use Rattle.tables.specs.Sizes.{bytesPerProcess, memoryWords}
-use Rattle.tables.specs.Tables.{world, wordAt, fresh}
+use Rattle.tables.specs.Tables.{World, world, wordAt, fresh}
+use Rattle.rules.specs.Answers.{answered}
 use Rattle.rules.specs.Events.{step}
 use Rattle.rules.specs.History.{start, final, answers, keptFor, entriesOf}
 use Rattle.rules.specs.Claims.{Alike}
 use Rattle.kernel.specs.Follows.{Follows}
 use Rattle.kernel.specs.Runs.{Runs, over, next}
 use Rattle.rules.proofs.Theorems.{isolation}
+use Rattle.kernel.proofs.Steps.{follows}
 
 -- one event of the code leaves the world that the rules say
 left : {e : Event} {s : State} {ws after : List ℕ} {r : Answered} → Follows e s ws r after → step e (world s ws) .world ≡ world (r .state) after
@@ -34,6 +37,22 @@ run-answers (next {es = es} f run) =
     let first = ap (λ (a : Answered). a .answer) (f .result) in
     let rest = run-answers run ∙ sym (ap (answers es) (left f)) in
     λ i. first i ∷ rest i
+
+-- the run of a history, from any tables and words
+the-run : (h : List Event) (s : State) (ws : List ℕ)
+    → Runs h s ws (answers h (world s ws)) (final h (world s ws) .state) (final h (world s ws) .words)
+the-run [] s ws = over
+the-run (e ∷ es) s ws =
+    let w = step e (world s ws) .world in
+    next (follows e s ws (answered (step e (world s ws))) (w .words) refl refl) (the-run es (w .state) (w .words))
+
+-- There is a run of every history from any tables and words, and it is the only one: its answers, tables and words are the rules'.
+pub runs-exactly : (h : List Event) (s t : State) (ws us : List ℕ) (as′ : List Answer)
+    → Runs h s ws as′ t us ↔ ((as′ ≡ answers h (world s ws)) × (final h (world s ws) ≡ world t us))
+runs-exactly h s t ws us as′ = (
+  (λ run. (run-answers run, run-leaves run)),
+  (λ is. subst₂ (λ as′ (w : World). Runs h s ws as′ (w .state) (w .words)) (sym (is .0)) (is .1) (the-run h s ws)),
+)
 
 -- Demand 3: take any process and any two runs from the fresh state over full-length memory with equal words for that process. If
 -- equal histories are left when the events that name another process are struck, the process's events got the same answers in the

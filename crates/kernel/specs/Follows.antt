@@ -5,11 +5,13 @@ use Prim.Native.Nat.{ℕ}
 use Rattle.tables.specs.declared.State.{State}
 use Rattle.rules.specs.declared.event.Event.{Event}
 use Rattle.rules.specs.declared.answer.Answered.{Answered}
-use Rattle.rules.specs.Answers.{answered}
+use Rattle.rules.specs.Answers.{answered, answerNumbers}
 use Rattle.rules.specs.Events.{step}
 use Rattle.tables.specs.Tables.{world}
 
 -- The answer, the whole state and every word afterwards are those of the rules.
 pub record Follows (e : Event) (s : State) (before : List ℕ) (r : Answered) (after : List ℕ) : Type 0 where
   pub result : r ≡ answered (step e (world s before))
+  -- so the paper's numbers of the answer are too
+  pub numbers : answerNumbers (r .answer) ≡ answerNumbers (step e (world s before) .answer)
   pub words : after ≡ step e (world s before) .world .words

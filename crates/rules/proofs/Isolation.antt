@@ -17,13 +17,13 @@ use Rattle.rules.specs.Events.{step}
 use Rattle.rules.specs.History.{start, final, Named, process, nobody, named, isKept, isProcess, belongs, keptFor, answersTo}
 use Rattle.rules.specs.Claims.{Alike}
 use Rattle.rules.proofs.Preserved.{Valid, step-valid}
-use Rattle.rules.proofs.View.{view-state, ownWord, viewState, view, own-thread, view-own, view-arrivals, view-word}
+use Rattle.rules.proofs.View.{view-state, ownWord, onlyOwn, viewState, view, own-thread, view-own, view-arrivals, view-word}
 use Rattle.rules.proofs.Own.{viewOut, step-call, step-store, step-interrupt, step-query, step-clock}
 use Rattle.rules.proofs.Other.{step-other}
 
 module _ (p : ℕ) where
   -- the process's own event, and one that is kept, on the view; and one that is struck
-  own-step : (e : Event) (w : World) → Valid w → belongs p e ≡ true → viewOut p (step e w) ≡ step e (view p w)
+  pub own-step : (e : Event) (w : World) → Valid w → belongs p e ≡ true → viewOut p (step e w) ≡ step e (view p w)
   own-step (CallEvent c) w g n =
       subst (λ q. viewOut q (step (CallEvent c) w) ≡ step (CallEvent c) (view q w)) (eqb-true (c .process) p n) (step-call w g c)
   own-step (Store q a v) w g n = rw (eqb-true q p n) (step-store w g p a v)
@@ -31,14 +31,14 @@ module _ (p : ℕ) where
   own-step (Interrupt q i) w g n = rw (eqb-true q p n) (step-interrupt w g p i)
   own-step (Query q) w g n = rw (eqb-true q p n) (step-query w g p)
 
-  kept-step : (e : Event) (w : World) → Valid w → isKept p (named e) ≡ true → view p (step e w .world) ≡ step e (view p w) .world
+  pub kept-step : (e : Event) (w : World) → Valid w → isKept p (named e) ≡ true → view p (step e w .world) ≡ step e (view p w) .world
   kept-step (CallEvent c) w g n = ap (λ (o : Outcome). o .world) (own-step (CallEvent c) w g n)
   kept-step (Store q a v) w g n = ap (λ (o : Outcome). o .world) (own-step (Store q a v) w g n)
   kept-step (Clock now) w g n = step-clock w g p now
   kept-step (Interrupt q i) w g n = ap (λ (o : Outcome). o .world) (own-step (Interrupt q i) w g n)
   kept-step (Query q) w g n = ap (λ (o : Outcome). o .world) (own-step (Query q) w g n)
 
-  struck-step : (e : Event) (w : World) → isKept p (named e) ≡ false → view p (step e w .world) ≡ view p w
+  pub struck-step : (e : Event) (w : World) → isKept p (named e) ≡ false → view p (step e w .world) ≡ view p w
   struck-step e w n = go (named e) refl n
     where
       go : (o : Named) → named e ≡ o → isKept p o ≡ false → view p (step e w .world) ≡ view p w
@@ -78,10 +78,9 @@ module _ (p : ℕ) where
       states : viewState p (u .state) ≡ viewState p (v .state)
       states = sym (view-state p u) ∙ ap (λ (w : World). w .state) e ∙ view-state p v
 
-  pub start-alike : (us vs : List ℕ) → length us ≡ length vs
-      → ((a : ℕ) → a < bytesPerProcess → wordAt (start us) p a ≡ wordAt (start vs) p a) → view p (start us) ≡ view p (start vs)
-  unfolding view
-  start-alike us vs n h = cc (update-alike (λ i x. cond (ownWord p i) x 0) 0 us vs n same)
+  pub words-alike : (us vs : List ℕ) → length us ≡ length vs
+      → ((a : ℕ) → a < bytesPerProcess → getD us (wordNumber p a) 0 ≡ getD vs (wordNumber p a) 0) → onlyOwn (ownWord p) 0 us ≡ onlyOwn (ownWord p) 0 vs
+  words-alike us vs n h = update-alike (λ i x. cond (ownWord p i) x 0) 0 us vs n same
     where
       same : (i : ℕ) → cond (ownWord p i) (getD us i 0) 0 ≡ cond (ownWord p i) (getD vs i 0) 0
       same i = cases (ownWord p i)
@@ -90,3 +89,8 @@ module _ (p : ℕ) where
           let at : wordNumber p (wordBytes * (i - wordsPerProcess * p)) ≡ i = omega arith in
           rw e (rw at at (h (wordBytes * (i - wordsPerProcess * p)) (omega arith))))
           (λ e. rw e)
+
+  pub start-alike : (us vs : List ℕ) → length us ≡ length vs
+      → ((a : ℕ) → a < bytesPerProcess → wordAt (start us) p a ≡ wordAt (start vs) p a) → view p (start us) ≡ view p (start vs)
+  unfolding view
+  start-alike us vs n h = cc (words-alike us vs n h)

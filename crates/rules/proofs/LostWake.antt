@@ -31,6 +31,7 @@ use Rattle.rules.proofs.Passed.{clear-passed}
 use Rattle.rules.proofs.Chosen.{candidate-own, moved-pass}
 use Rattle.rules.proofs.Rows.{counted-clear}
 use Rattle.rules.proofs.Taken.{takes-first}
+use Rattle.rules.proofs.Requeued.{requeue-answered}
 use Rattle.rules.proofs.Fate.{fate}
 
 module _ (t a : ℕ) where
@@ -60,7 +61,8 @@ module _ (t a : ℕ) where
       go (wakes c is out new) = clash false (not-running (threadOf (step e w .world .state) t) (ap (λ (r : Thread). r .waiting) new) now-asleep) refl
       go (moves c is on new) =
           let m = requeued c w on in
-          byRequeue c is (m .0) (m .1) (ap (λ (r : Thread). r .uaddr) (sym new) ∙ at-address (threadOf (step e w .world .state) t) now-asleep) (m .2)
+          let n = requeue-answered c w (m .0) (λ same. clash (asleepThere t a w) (ap (asleepThere t a) (sym (ap (λ x. step x w .world) is ∙ same)) ∙ now-asleep) was-not) in
+          byRequeue c (n .0) is (ap (λ x. step x w .answer) is ∙ n .1) (m .0) (m .1) (ap (λ (r : Thread). r .uaddr) (sym new) ∙ at-address (threadOf (step e w .world .state) t) now-asleep) (m .2)
       go (timesOut now is late new) = clash false (not-running (threadOf (step e w .world .state) t) (ap (λ (r : Thread). r .waiting) new) now-asleep) refl
       go (isInterrupted p i is it on new) = clash false (not-running (threadOf (step e w .world .state) t) (ap (λ (r : Thread). r .waiting) new) now-asleep) refl
 

@@ -1,12 +1,13 @@
 -- What is proved of the rules, demand by demand. Each theorem is stated here whole and cites its proof; specs/Claims.antt has the
--- words that the statements use, specs/Cases.antt the twelve cases.
+-- words that the statements use, specs/Cases.antt the cases; Pinned.antt has the laws that fix these words.
 use mathlib.Core.Path.{_≡_, refl, sym, ap, _∙_}
-use mathlib.Core.Bool.{true, false, cond}
-use mathlib.Core.List.{List, [], _∷_, map}
+use mathlib.Core.Bool.{true, false, cond, _&&_}
+use mathlib.Core.List.{List, [], _∷_, _++_, map}
 use mathlib.Core.Logic.{_⊎_, inl, inr, _↔_}
-use Prim.Native.Nat.{ℕ, _+_, _≤_, _<_}
+use Prim.Native.Nat.{ℕ, _+_, _-_, _≤_, _<_, min}
+use native.Mathlib.Omega.{arith}
 use lib.ListN.{length, take, drop}
-use Rattle.lists.specs.Lists.{filter, without}
+use Rattle.lists.specs.Lists.{filter, elem, without, countBelow}
 use Rattle.lists.proofs.Tests.{by-cases, clash}
 use Rattle.tables.specs.declared.State.{State}
 use Rattle.tables.specs.declared.LastAnswer.the-variants.{TimedOut, Interrupted}
@@ -18,8 +19,8 @@ use Rattle.rules.specs.declared.event.Event.the-variants.{Call as CallEv
 use Rattle.rules.specs.declared.answer.Errno.{Errno}
 use Rattle.rules.specs.declared.answer.Answer.the-variants.{Asleep, Count, Refused}
 use Rattle.tables.specs.Sizes.{bytesPerProcess, memoryWords}
-use Rattle.tables.specs.Tables.{World, threadNumber, processOf, wordAt, ended, threadOf, queue, expired, expiredSleepers, tablesOk, withState, fallAsleep}
-use Rattle.rules.specs.Answers.{outcome}
+use Rattle.tables.specs.Tables.{World, threadNumber, processOf, wordAt, ended, threadOf, arrivals, sleepsAt, queue, expired, expiredSleepers, tablesOk, withState, fallAsleep}
+use Rattle.rules.specs.Answers.{asleepNumber, outcome}
 use Rattle.rules.specs.Commands.{commandOf}
 use Rattle.rules.specs.WakeOp.{compares}
 use Rattle.rules.specs.Calls.{caller, secondCap, matches, candidates, released, moved, releasedSecond}
@@ -27,13 +28,15 @@ use Rattle.rules.specs.Events.{refusals, effect, step}
 use Rattle.rules.specs.History.{start, final, keptFor, answersTo}
 use Rattle.rules.specs.Claims.{FirstOf, Clear, Sleeps, sleepsBy, Took, Takes, wokenCount, shiftedCount, countsMoves, NamedAlike, Fate, asleepThere, sleptThrough, Since, Alike}
 use Rattle.rules.proofs.Rows.{first-of, of-first, verdicts, step-refused, step-clear}
-use Rattle.rules.specs.Cases.{twelve, given}
-use Rattle.rules.proofs.Cases.{as-document-01-says}
+use Rattle.rules.specs.Cases.{twelve, further, given, shares, shareOf, unsounds, unsoundGiven}
+use Rattle.rules.proofs.Cases as Cases
 use Rattle.tables.proofs.Sound.{tables-sound, sound-tables, none-overdue}
 use Rattle.rules.proofs.Refused.{refused-row}
 use Rattle.rules.proofs.Preserved.{step-valid, final-valid, start-valid}
 use Rattle.rules.proofs.Sleeps as Sleeps′
 use Rattle.rules.proofs.Taken as Taken
+use Rattle.rules.proofs.Order as Order
+use Rattle.rules.proofs.Counts as Counts
 use Rattle.rules.proofs.Local as Local
 use Rattle.rules.proofs.Fate as Fate′
 use Rattle.rules.proofs.LostWake as LostWake
@@ -77,7 +80,8 @@ asleep-leaves = Sleeps′.asleep-leaves
 
 -- Demand 2, wakes and requeues.
 
--- "A wake or requeue takes the matching sleepers in arrival order up to its caps, neither more nor fewer."
+-- Definitions read out: whom a call releases, moves, and releases at WAKE_OP's second word, which `takes-first` below speaks of. "A wake or
+-- requeue takes the matching sleepers in arrival order up to its caps, neither more nor fewer."
 pub released-first : (k : Command) (c : Call) (s : State)
     → released k c s ≡ take (c .val) (filter (λ t. matches k c (threadOf s t)) (queue (c .process) (c .uaddr) s))
 unfolding released candidates
@@ -97,6 +101,30 @@ pub released-second : (k : Command) (c : Call) (w : World)
 unfolding releasedSecond candidates
 released-second k c w = refl
 
+-- Nobody is overtaken: a sleeper that the call matches, and that no released one stands before in the list, is released too,
+pub none-overtaken : (k : Command) (c : Call) (s : State) (t u : ℕ) (earlier later : List ℕ) → arrivals s ≡ earlier ++ u ∷ later → elem t earlier ≡ false
+    → (matches k c (threadOf s u) && sleepsAt (c .process) (c .uaddr) s u) ≡ true
+    → elem t (released k c s) ≡ true → elem u (released k c s) ≡ true
+none-overtaken = Order.none-overtaken
+
+-- if another was moved, released or moved,
+pub none-passed-over : (k : Command) (c : Call) (s : State) (t u : ℕ) (earlier later : List ℕ) → arrivals s ≡ earlier ++ u ∷ later → elem t earlier ≡ false
+    → (matches k c (threadOf s u) && sleepsAt (c .process) (c .uaddr) s u) ≡ true
+    → elem t (moved k c s) ≡ true → elem u (released k c s ++ moved k c s) ≡ true
+none-passed-over = Order.none-passed
+
+-- and so at WAKE_OP's second word.
+pub none-overtaken-second : (k : Command) (c : Call) (w : World) (t u : ℕ) (earlier later : List ℕ) → arrivals (w .state) ≡ earlier ++ u ∷ later
+    → elem t earlier ≡ false → (matches k c (threadOf (w .state) u) && sleepsAt (c .process) (c .uaddr2) (w .state) u) ≡ true
+    → elem t (releasedSecond k c w) ≡ true → elem u (released k c (w .state) ++ releasedSecond k c w) ≡ true
+none-overtaken-second = Order.second-overtaken
+
+-- How many: as many as the cap and the matching sleepers allow, and then as many of the rest as the second cap allows.
+pub how-many : (k : Command) (c : Call) (s : State) → tablesOk s ≡ true
+    → let there = countBelow 64 (λ t. matches k c (threadOf s t) && sleepsAt (c .process) (c .uaddr) s t) in
+    (length (released k c s) ≡ min (c .val) there) × (length (moved k c s) ≡ min (secondCap c) (there - c .val))
+how-many k c s h = (Order.released-many k c s (tables-sound s h), Order.moved-many k c s (tables-sound s h))
+
 -- Those run, or move with mask and deadline kept; every other record and the order of every other entry are as they were.
 pub takes-first : (c : Call) (w : World) (n : ℕ) → step (CallEvent c) w .answer ≡ Count n
     → Takes (commandOf (c .op)) c w (step (CallEvent c) w .world)
@@ -107,6 +135,13 @@ takes-first = Taken.takes-first
 pub counted : (e : Event) (w : World) (n : ℕ) → step e w .answer ≡ Count n
     → n ≡ wokenCount w (step e w .world) + cond (countsMoves e) (shiftedCount w (step e w .world)) 0
 counted = Taken.counted
+
+-- No count is above 64, so none is ever as high as "asleep".
+pub count-most : (e : Event) (w : World) (n : ℕ) → step e w .answer ≡ Count n → n ≤ 64
+count-most = Counts.count-most
+
+pub count-below-asleep : (e : Event) (w : World) (n : ℕ) → step e w .answer ≡ Count n → n < asleepNumber
+count-below-asleep e w n h = omega (arith, count-most e w n h)
 
 -- "The count that a wake or requeue answers depends on no sleeper at a word that the call doesn't name."
 pub count-local : (c : Call) (w v : World) (m n : ℕ) → NamedAlike (commandOf (c .op)) c w v
@@ -168,7 +203,19 @@ no-lost-wake c w n wake answer enough h t own asleep =
 
 -- The twelve cases of document 01, P1 to P12, come out as it says.
 pub twelve-cases : map given twelve ≡ twelve
-twelve-cases = as-document-01-says
+twelve-cases = Cases.as-document-01-says
+
+-- So do cases of the other events and of the answers that the twelve do not give, with every last answer of an ended sleep,
+pub further-cases : map given further ≡ further
+further-cases = Cases.further-given
+
+-- what each process is answered and what is kept for it of one history of several,
+pub mixed-history : map shareOf shares ≡ shares
+mixed-history = Cases.shares-given
+
+-- and memory of a wrong length and broken tables: -6 and -9 to every event but a panel query.
+pub unsound-worlds : map unsoundGiven unsounds ≡ unsounds
+unsound-worlds = Cases.unsounds-given
 
 -- The tables.
 

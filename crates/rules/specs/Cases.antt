@@ -1,5 +1,5 @@
--- "Twelve to be proved together": P1 to P12, each run from the fresh state over zero words, in one table. proofs/Theorems.antt has their one
--- statement, `twelve-cases`.
+-- "Twelve to be proved together": P1 to P12, each run from the fresh state over zero words, in one table; beside them further cases, and one
+-- history of several processes. proofs/Theorems.antt has a statement for each table.
 use mathlib.Core.Bool.{Bool, true, false}
 use mathlib.Core.List.{List, [], _∷_, _++_, map}
 use Prim.Native.Nat.{ℕ, suc, _-_}
@@ -10,12 +10,11 @@ use Rattle.tables.specs.declared.Thread.{Thread}
 use Rattle.tables.specs.declared.LastAnswer.{LastAnswer}
 use Rattle.tables.specs.declared.LastAnswer.the-variants.{NoneYet, Woken, TimedOut, Interrupted}
 use Rattle.rules.specs.declared.event.Event.{Event}
-use Rattle.rules.specs.declared.event.Event.the-variants.{Call, Store, Clock}
-use Rattle.tables.specs.Sizes.{memoryWords, threadsPerProcess, matchAny}
-use Rattle.tables.specs.Tables.{World, threadOf, arrivals, wordAt}
+use Rattle.rules.specs.declared.event.Event.the-variants.{Call, Store, Clock, Interrupt, Query}
+use Rattle.tables.specs.Sizes.{memoryWords, threads, threadsPerProcess, matchAny, noEntry}
+use Rattle.tables.specs.Tables.{World, world, freshThread, threadOf, arrivals, wordAt}
 use Rattle.rules.specs.Answers.{answerNumbers, lastNumber}
-use Rattle.rules.specs.Events.{step}
-use Rattle.rules.specs.History.{start, final}
+use Rattle.rules.specs.History.{start, final, answers, answersTo, keptFor}
 
 -- the words are of process 0, and most cases use the one at this address
 abbrev address : ℕ
@@ -28,9 +27,12 @@ other = 12
 abbrev waker : ℕ
 waker = threadsPerProcess - 1
 
+abbrev callOf : ℕ → ℕ → ℕ → ℕ → ℕ → ℕ → ℕ → ℕ → ℕ → Event
+callOf p i op a v flag timeout a2 v3 =
+    Call (record { process = p; index = i; op = op; uaddr = a; val = v; flag = flag; timeout = timeout; uaddr2 = a2; val3 = v3 })
+
 abbrev callBy : ℕ → ℕ → ℕ → ℕ → ℕ → ℕ → ℕ → ℕ → Event
-callBy i op a v flag timeout a2 v3 =
-    Call (record { process = 0; index = i; op = op; uaddr = a; val = v; flag = flag; timeout = timeout; uaddr2 = a2; val3 = v3 })
+callBy i op a v flag timeout a2 v3 = callOf 0 i op a v flag timeout a2 v3
 
 -- thread i waits at a for v
 abbrev waitFor : ℕ → ℕ → ℕ → Event
@@ -96,6 +98,13 @@ woken t = endedSleep t (pos 0)
 abbrev timedOut : ℕ → EndedSleep
 timedOut t = endedSleep t (negℤ (pos 110))
 
+abbrev interrupted : ℕ → EndedSleep
+interrupted t = endedSleep t (negℤ (pos 4))
+
+-- a panel query's three numbers
+abbrev three : ℕ → ℕ → ℕ → List ℤ
+three waiting count lowest = pos waiting ∷ pos count ∷ pos lowest ∷ []
+
 abbrev threeAsleep : List Event
 threeAsleep = waitUntil 0 0 10 ∷ waitUntil 1 0 11 ∷ waitUntil 2 0 12 ∷ []
 
@@ -128,13 +137,31 @@ twelve =
     ∷ line (callBy 0 128 address 0 0 0 0 0 ∷ callBy 1 256 address 0 0 0 0 0 ∷ callBy 1 2 address 0 0 0 0 0 ∷ callBy 1 512 address 0 0 0 0 0 ∷ []) (asleep ∷ minus 38 ∷ minus 38 ∷ minus 38 ∷ []) (at 0 address ∷ []) [] 0
     ∷ []
 
+-- Cases of the other events, and of the answers that the twelve do not give.
+abbrev pub further : List Case
+further =
+    -- an interrupt of a sleeper: 1, and its last answer is -4; of a running thread: 0, and its last answer stays
+    line (waitFor 0 address 0 ∷ Interrupt 0 0 ∷ Interrupt 0 0 ∷ Interrupt 0 1 ∷ []) (asleep ∷ number 1 ∷ number 0 ∷ number 0 ∷ []) [] (interrupted 0 ∷ []) 0
+    -- the clock ends two of three, and the third keeps its deadline
+    ∷ line (threeAsleep ++ (Clock 11 ∷ [])) (asleep ∷ asleep ∷ asleep ∷ number 2 ∷ []) (until 2 address 12 ∷ []) (timedOut 0 ∷ timedOut 1 ∷ []) 0
+    -- a panel query: threads 1 and 3 asleep; nobody; a process above 7
+    ∷ line (waitFor 3 address 0 ∷ waitFor 1 address 0 ∷ Query 0 ∷ Query 1 ∷ Query 8 ∷ []) (asleep ∷ asleep ∷ three 10 2 1 ∷ three 0 0 8 ∷ three 0 0 8 ∷ []) (at 3 address ∷ at 1 address ∷ []) [] 0
+    -- a process or index above 7: -3, by each event that names one
+    ∷ line (callOf 8 0 1 address 1 0 0 0 0 ∷ callOf 0 8 1 address 1 0 0 0 0 ∷ Store 8 address 1 ∷ Interrupt 8 0 ∷ Interrupt 0 8 ∷ []) (minus 3 ∷ minus 3 ∷ minus 3 ∷ minus 3 ∷ minus 3 ∷ []) [] [] 0
+    -- a call of a thread that waits: -16
+    ∷ line (waitFor 0 address 0 ∷ callBy 0 1 address 1 0 0 0 0 ∷ []) (asleep ∷ minus 16 ∷ []) (at 0 address ∷ []) [] 0
+    -- a store: not aligned -22, outside -14
+    ∷ line (Store 0 9 1 ∷ Store 0 4096 1 ∷ Store 0 4097 1 ∷ Store 0 address 7 ∷ []) (minus 22 ∷ minus 14 ∷ minus 22 ∷ number 0 ∷ []) [] [] 7
+    -- WAKE_OP with an undefined operation or comparison: -38, and the word stays
+    ∷ line (byWaker 5 other 0 1 address 0x50000000 ∷ byWaker 5 other 0 1 address 0x06000000 ∷ []) (minus 38 ∷ minus 38 ∷ []) [] [] 0
+    ∷ []
+
 -- what the rules give
 
-abbrev told : List Event → World → List (List ℤ)
-told [] w = []
-told (e ∷ es) w = answerNumbers (step e w .answer) ∷ told es (step e w .world)
+abbrev pub told : List Event → World → List (List ℤ)
+told h w = map answerNumbers (answers h w)
 
-abbrev sleepers : State → List Sleeper
+abbrev pub sleepers : State → List Sleeper
 sleepers s = map (λ t. let r = threadOf s t in record { number = t; uaddr = r .uaddr; bitset = r .bitset; timed = r .timed; deadline = r .deadline }) (arrivals s)
 
 -- the sleeps that have ended, of the threads from number n on
@@ -144,7 +171,7 @@ endedAs Woken t = endedSleep t (lastNumber Woken) ∷ []
 endedAs TimedOut t = endedSleep t (lastNumber TimedOut) ∷ []
 endedAs Interrupted t = endedSleep t (lastNumber Interrupted) ∷ []
 
-abbrev endedFrom : ℕ → List Thread → List EndedSleep
+abbrev pub endedFrom : ℕ → List Thread → List EndedSleep
 endedFrom n [] = []
 endedFrom n (r ∷ rs) = endedAs (r .last) n ++ endedFrom (suc n) rs
 
@@ -153,3 +180,61 @@ given r =
     let w = start (replicate memoryWords 0) in
     let v = final (r .happens) w in
     line (r .happens) (told (r .happens) w) (sleepers (v .state)) (endedFrom 0 (v .state .threads)) (wordAt v 0 address)
+
+-- One history with events of processes 0, 1 and 9, of the clock, interrupts and panel queries.
+abbrev sleep0 : Event
+sleep0 = callOf 0 1 0 address 0 0 0 0 0
+
+abbrev sleep1 : Event
+sleep1 = callOf 1 1 0 address 0 1 5 0 0
+
+abbrev wake1 : Event
+wake1 = callOf 1 0 1 address 1 0 0 0 0
+
+abbrev pub mixed : List Event
+mixed = sleep0 ∷ sleep1 ∷ Store 9 address 1 ∷ Query 0 ∷ Clock 5 ∷ wake1 ∷ Interrupt 0 1 ∷ Query 9 ∷ Query 1 ∷ Clock 4 ∷ []
+
+-- what of it is a process's: the events that are kept for it, and what its own were answered
+pub record Share : Type 0 where
+  pub process : ℕ
+  pub kept : List Event
+  pub answers : List (List ℤ)
+
+abbrev share : ℕ → List Event → List (List ℤ) → Share
+share p events numbers = record { process = p; kept = events; answers = numbers }
+
+abbrev pub shares : List Share
+shares =
+    share 0 (sleep0 ∷ Query 0 ∷ Clock 5 ∷ Interrupt 0 1 ∷ Clock 4 ∷ []) (asleep ∷ three 2 1 1 ∷ number 1 ∷ [])
+    ∷ share 1 (sleep1 ∷ Clock 5 ∷ wake1 ∷ Query 1 ∷ Clock 4 ∷ []) (asleep ∷ number 0 ∷ three 0 0 8 ∷ [])
+    ∷ share 2 (Clock 5 ∷ Clock 4 ∷ []) []
+    ∷ share 9 (Store 9 address 1 ∷ Clock 5 ∷ Query 9 ∷ Clock 4 ∷ []) (minus 3 ∷ three 0 0 8 ∷ [])
+    ∷ []
+
+abbrev pub shareOf : Share → Share
+shareOf s = share (s .process) (keptFor (s .process) mixed) (map answerNumbers (answersTo (s .process) mixed (start (replicate memoryWords 0))))
+
+-- Worlds in which no event but a panel query is let through: memory of a wrong length, tables that break a rule.
+abbrev brokenCount : State
+brokenCount = record { clock = 0; threads = replicate threads freshThread; list = replicate threads noEntry; count = 1 }
+
+abbrev pub each : List Event
+each = waitFor 0 address 0 ∷ Store 0 address 1 ∷ Clock 1 ∷ Interrupt 0 0 ∷ Query 0 ∷ []
+
+pub record Unsound : Type 0 where
+  pub world : World
+  pub answers : List (List ℤ)
+
+abbrev unsound : World → List (List ℤ) → Unsound
+unsound w numbers = record { world = w; answers = numbers }
+
+abbrev pub unsounds : List Unsound
+unsounds =
+    unsound (start (0 ∷ [])) (minus 6 ∷ minus 6 ∷ minus 6 ∷ minus 6 ∷ three 0 0 8 ∷ [])
+    ∷ unsound (world brokenCount (replicate memoryWords 0)) (minus 9 ∷ minus 9 ∷ minus 9 ∷ minus 9 ∷ three 0 0 8 ∷ [])
+    -- both: "the first that applies answers"
+    ∷ unsound (world brokenCount []) (minus 6 ∷ minus 6 ∷ minus 6 ∷ minus 6 ∷ three 0 0 8 ∷ [])
+    ∷ []
+
+abbrev pub unsoundGiven : Unsound → Unsound
+unsoundGiven u = unsound (u .world) (told each (u .world))

@@ -17,6 +17,7 @@ use Rattle.rules.specs.declared.event.Call.{Call}
 use Rattle.rules.specs.declared.event.Event.{Event}
 use Rattle.rules.specs.declared.event.Event.the-variants.{Call as CallEvent, Store, Clock, Interrupt, Query}
 use Rattle.rules.specs.declared.answer.Errno.{Errno}
+use Rattle.rules.specs.declared.answer.Answer.the-variants.{Count}
 use Rattle.tables.specs.Sizes.{processes, threadsPerProcess, threads, wordBytes, bytesPerProcess, memoryWords}
 use Rattle.tables.specs.Tables.{expired, World, threadNumber, processOf, wordNumber, wordAt, ended, threadOf, arrivals, queue, tablesOk, movedTo, asleepAt}
 use Rattle.rules.specs.Answers.{Row}
@@ -145,11 +146,11 @@ abbrev pub asleepThere : ℕ → ℕ → World → Bool
 asleepThere t a w = threadOf (w .state) t .waiting && eqb (threadOf (w .state) t .uaddr) a
 
 -- How a thread can come to be asleep at an address: by a wait of its own that sleeps there, and so saw its number there, or by a
--- requeue to that address, by a thread of its process.
+-- requeue to that address that is answered a count, by a thread of its process.
 pub data Enters (t a : ℕ) (e : Event) (w : World) : Type 0 where
   byWait : (c : Call) → e ≡ CallEvent c → t ≡ caller c → c .uaddr ≡ a → Sleeps c w → Enters t a e w
-  byRequeue : (c : Call) → e ≡ CallEvent c → uses (commandOf (c .op)) .moves ≡ true → c .process ≡ processOf t → c .uaddr2 ≡ a
-      → elem t (moved (commandOf (c .op)) c (w .state)) ≡ true → Enters t a e w
+  byRequeue : (c : Call) (n : ℕ) → e ≡ CallEvent c → step e w .answer ≡ Count n → uses (commandOf (c .op)) .moves ≡ true
+      → c .process ≡ processOf t → c .uaddr2 ≡ a → elem t (moved (commandOf (c .op)) c (w .state)) ≡ true → Enters t a e w
 
 -- asleep there before and after each event of the history
 abbrev pub sleptThrough : ℕ → ℕ → List Event → World → Bool

@@ -24,6 +24,13 @@ abbrev pub answers : List Event → World → List Answer
 answers [] w = []
 answers (e ∷ es) w = step e w .answer ∷ answers es (step e w .world)
 
+abbrev pub isClock : Event → Bool
+isClock (Call c) = false
+isClock (Store p a v) = false
+isClock (Clock now) = true
+isClock (Interrupt p i) = false
+isClock (Query p) = false
+
 -- Whose event it is: the process that it names, if any.
 pub data Named : Type 0 where
   process : ℕ → Named

@@ -1,5 +1,4 @@
 // Text: numbers and answers as lines of text, written into a lent slice. It stands on rules.
-ghost use mathlib.Core.Path.{_≡_};
 ghost use Prim.Native.Nat.{_+_, _≤_};
 ghost use lib.ListN.{length};
 ghost use Rattle.text.specs.Text.{wordDigits, decimal, countLine, refusalLine, lineOf, lineRoom, Puts};

@@ -1,0 +1,323 @@
+-- Laws that fix the words in which the theorems speak: each says, of a definition in specs/, what only the right one meets.
+use mathlib.Core.Path.{_≡_, refl, ap, _∙_}
+use mathlib.Core.Bool.{true, false, not, cond, _&&_, _||_}
+use mathlib.Core.List.{List, [], _∷_, _++_, map}
+use mathlib.Core.Logic.{_⊎_, _↔_}
+use Prim.Native.Nat.{ℕ, _*_, _/_}
+use lib.ListN.{length, take, drop, replicate}
+use lib.Dec.{eqb, ltb}
+use lib.Count.{ones, trailingZeros}
+use lib.IntN.{pos, negℤ}
+use borrow.Author.Tests.{eqb-true, eq-eqb}
+use Rattle.lists.specs.Lists.{filter, elem}
+use Rattle.lists.proofs.Filter.{getD-replicated}
+use Rattle.lists.proofs.Tests.{cases, eqb-refl, and-intro, and-left, and-right}
+use Rattle.tables.specs.declared.State.{State}
+use Rattle.tables.specs.declared.Thread.{Thread}
+use Rattle.tables.specs.declared.LastAnswer.{LastAnswer}
+use Rattle.rules.specs.declared.event.Command.{Command}
+use Rattle.rules.specs.declared.event.Command.the-variants.{CmpRequeue}
+use Rattle.rules.specs.declared.event.Call.{Call}
+use Rattle.rules.specs.declared.event.Event.{Event}
+use Rattle.rules.specs.declared.event.Event.the-variants.{Call as CallEvent, Store, Clock, Interrupt, Query}
+use Rattle.rules.specs.declared.answer.Errno.{Errno}
+use Rattle.rules.specs.declared.answer.Verdict.the-variants.{Refuse, Pass}
+use Rattle.rules.specs.declared.answer.Answer.the-variants.{Asleep, Count}
+use Rattle.tables.specs.Sizes.{threads, memoryWords}
+use Rattle.tables.specs.Tables.{World, world, fresh, expired, threadNumber, processOf, threadOf, arrivals, tablesOk, movedTo, wordAt, aligned, outside, expiredSleepers}
+use Rattle.rules.specs.Answers.{Row, first, answerNumbers, lastNumber}
+use Rattle.rules.specs.Numbers.{refuse}
+use Rattle.rules.specs.Commands.{commandOf, notImplemented}
+use Rattle.rules.specs.WakeOp.{undefinedOp}
+use Rattle.rules.specs.Calls.{wrongMemory, brokenTables, noProcess, noThread, caller, badArgument, badAddress, isWakeOp, differs, late, full, callRows, callEffect}
+use Rattle.rules.specs.Events.{refusals, effect, step, clockEffect, interruptEffect, waitingSet, panel}
+use Rattle.rules.specs.History.{start, final, answers, isClock, belongs, keptFor, entriesOf, answersTo}
+use Rattle.rules.specs.Claims.{FirstOf, Clear, Sleeps, Took, Takes, wokenBy, movedBy, woke, shifted, countsMoves, SameSleepers, NamedAlike, before, after, asleepThere, Enters, sleptThrough, Since, Alike}
+use Rattle.rules.specs.Cases.{Case, sleepers, endedFrom, given, Share, mixed, shareOf, Unsound, each, unsoundGiven}
+use Rattle.tables.proofs.Sound.{tables-sound}
+use Rattle.rules.proofs.Rows.{first-of, of-first, pass-clear, clear-pass}
+use Rattle.rules.proofs.Preserved.{Valid}
+use Rattle.rules.proofs.Taken as Taken
+use Rattle.rules.proofs.Fate.{fate}
+use Rattle.rules.proofs.Determined as Determined
+use Rattle.rules.proofs.Alike as Alike′
+use Rattle.rules.proofs.Slept as Slept
+use Rattle.rules.proofs.Elsewhere as Elsewhere
+use Rattle.rules.proofs.Fates as Fates
+use Rattle.rules.proofs.Counts as Counts
+use Rattle.rules.proofs.Histories as Histories
+use Rattle.rules.proofs.Numbers.{by-number}
+
+-- The numbers, as document 01 has them.
+
+-- "Answers by number" of a call, row by row in the paper's order, and else "asleep" or a count.
+pub call-by-number : (c : Call) (w : World) → let k = commandOf (c .op) in
+    answerNumbers (step (CallEvent c) w .answer)
+    ≡ refuse 6 (wrongMemory w)
+    (refuse 9 (brokenTables w)
+    (refuse 3 (noThread (c .process) (c .index))
+    (refuse 16 (threadOf (w .state) (caller c) .waiting)
+    (refuse 38 (notImplemented (c .op))
+    (refuse 22 (badArgument k c)
+    (refuse 14 (badAddress k c)
+    (refuse 38 (isWakeOp k && undefinedOp (c .val3))
+    (refuse 11 (differs k c (wordAt w (c .process) (c .uaddr)))
+    (refuse 110 (late k c (w .state .clock))
+    (refuse 12 (full (w .state .count))
+    (answerNumbers (callEffect k c w .answer))))))))))))
+unfolding refusals callRows effect
+call-by-number c w = by-number (CallEvent c) w
+
+pub store-by-number : (p a v : ℕ) (w : World)
+    → answerNumbers (step (Store p a v) w .answer)
+    ≡ refuse 6 (wrongMemory w) (refuse 9 (brokenTables w) (refuse 3 (noProcess p) (refuse 22 (not (aligned a)) (refuse 14 (outside a) (pos 0 ∷ [])))))
+unfolding refusals effect
+store-by-number p a v w = by-number (Store p a v) w
+
+pub clock-by-number : (now : ℕ) (w : World)
+    → answerNumbers (step (Clock now) w .answer)
+    ≡ refuse 6 (wrongMemory w)
+    (refuse 9 (brokenTables w)
+    (refuse 22 (ltb now (w .state .clock))
+    (pos (length (expiredSleepers now (w .state))) ∷ [])))
+unfolding refusals effect clockEffect
+clock-by-number now w = by-number (Clock now) w
+
+pub interrupt-by-number : (p i : ℕ) (w : World)
+    → answerNumbers (step (Interrupt p i) w .answer)
+    ≡ refuse 6 (wrongMemory w)
+    (refuse 9 (brokenTables w)
+    (refuse 3 (noThread p i)
+    (cond (threadOf (w .state) (threadNumber p i) .waiting) (pos 1 ∷ []) (pos 0 ∷ []))))
+unfolding refusals effect interruptEffect
+interrupt-by-number p i w = by-number (Interrupt p i) w ∙ cases (threadOf (w .state) (threadNumber p i) .waiting) (λ e. rw e) (λ e. rw e)
+
+-- "one byte .., the number of set bits, and the lowest set bit, or 8 if none", in this order
+pub query-by-number : (p : ℕ) (w : World) → let waiting = cond (noProcess p || brokenTables w) 0 (waitingSet p (w .state)) in
+    answerNumbers (step (Query p) w .answer) ≡ pos waiting ∷ pos (ones waiting) ∷ pos (trailingZeros 8 waiting) ∷ []
+unfolding refusals effect panel
+query-by-number p w = by-number (Query p) w
+
+-- "asleep" to a host, and a count
+pub asleep-by-number : answerNumbers Asleep ≡ pos 2147483647 ∷ []
+asleep-by-number = refl
+
+pub count-by-number : (n : ℕ) → answerNumbers (Count n) ≡ pos n ∷ []
+count-by-number n = refl
+
+-- "The last answer is 1 until a sleep ends, then 0 (woken), -110 or -4."
+pub fresh-last : (words : List ℕ) (t : ℕ) → lastNumber (threadOf (start words .state) t .last) ≡ pos 1
+unfolding fresh
+fresh-last words t = ap (λ (r : Thread). lastNumber (r .last)) (getD-replicated threads t _)
+
+pub released-last : (c : Call) (w : World) (n t : ℕ) → step (CallEvent c) w .answer ≡ Count n → elem t (wokenBy (commandOf (c .op)) c w) ≡ true
+    → lastNumber (threadOf (step (CallEvent c) w .world .state) t .last) ≡ pos 0
+released-last c w n t h e = ap (λ (r : Thread). lastNumber (r .last)) (Taken.takes-first c w n h .took .ran t e)
+
+pub deadline-last : (now : ℕ) (w : World) (n t : ℕ) → step (Clock now) w .answer ≡ Count n → expired now (threadOf (w .state) t) ≡ true
+    → lastNumber (threadOf (step (Clock now) w .world .state) t .last) ≡ negℤ (pos 110)
+deadline-last now w n t h e = ap (λ (r : Thread). lastNumber (r .last)) (Taken.clock-ends now w n h .ran t (Taken.expired-all now w n h t e))
+
+pub interrupt-last : (p i : ℕ) (w : World) (n : ℕ) → step (Interrupt p i) w .answer ≡ Count n → threadOf (w .state) (threadNumber p i) .waiting ≡ true
+    → lastNumber (threadOf (step (Interrupt p i) w .world .state) (threadNumber p i) .last) ≡ negℤ (pos 4)
+interrupt-last p i w n h e =
+    let t = threadNumber p i in
+    ap (λ (r : Thread). lastNumber (r .last)) (Taken.interrupt-ends p i w n h e .ran t (rw (eqb-refl t)))
+
+-- Histories.
+
+-- the fresh tables over the words that are given
+pub starts : (words : List ℕ) → start words ≡ world fresh words
+starts words = refl
+
+-- What a history leaves and is answered: nothing at first, then event by event, each on "the tables and words that the one before it left".
+pub nothing-yet : (p : ℕ) (w : World) → (final [] w ≡ w) × (answers [] w ≡ []) × (answersTo p [] w ≡ []) × (keptFor p [] ≡ [])
+nothing-yet p w = (refl, refl, refl, refl)
+
+pub final-last : (g : List Event) (e : Event) (w : World) → final (g ++ e ∷ []) w ≡ step e (final g w) .world
+final-last g e w = Histories.final-append g (e ∷ []) w
+
+pub answers-last : (g : List Event) (e : Event) (w : World) → answers (g ++ e ∷ []) w ≡ answers g w ++ step e (final g w) .answer ∷ []
+answers-last g e w = Histories.answers-append g (e ∷ []) w
+
+-- Whose an event is: "A call, store, interrupt or panel query belongs to the process that it names. A clock event belongs to none".
+pub belongs-to : (p q i a v now : ℕ) (c : Call)
+    → (belongs p (CallEvent c) ≡ eqb (c .process) p)
+    × (belongs p (Store q a v) ≡ eqb q p)
+    × (belongs p (Interrupt q i) ≡ eqb q p)
+    × (belongs p (Query q) ≡ eqb q p)
+    × (belongs p (Clock now) ≡ false)
+belongs-to p q i a v now c = (refl, refl, refl, refl, refl)
+
+-- What a process's events are answered: all of them, in order, and no other's.
+pub answers-in-order : (p : ℕ) (g : List Event) (e : Event) (w : World)
+    → answersTo p (g ++ e ∷ []) w ≡ answersTo p g w ++ cond (belongs p e) (step e (final g w) .answer ∷ []) []
+answers-in-order = Histories.answers-in-order
+
+-- the same of any list with an entry for each event
+pub entries-last : {A : Type 0} (p : ℕ) (g : List Event) (e : Event) (l : List A) (x : A) → length l ≡ length g
+    → entriesOf p (g ++ e ∷ []) (l ++ x ∷ []) ≡ entriesOf p g l ++ cond (belongs p e) (x ∷ []) []
+entries-last = Histories.entries-last
+
+-- What is left of a history when "the events that name another process" are struck: the process's own, and the clock's.
+pub kept-last : (p : ℕ) (g : List Event) (e : Event) → keptFor p (g ++ e ∷ []) ≡ keptFor p g ++ cond (belongs p e || isClock e) (e ∷ []) []
+kept-last = Histories.kept-last
+
+pub clock-kept : (p now : ℕ) (g : List Event) → keptFor p (g ++ Clock now ∷ []) ≡ keptFor p g ++ Clock now ∷ []
+clock-kept p now g = kept-last p g (Clock now)
+
+-- Refusals: the first row that applies, and no row.
+pub first-exactly : (x : Errno) (rs : List Row) → FirstOf x rs ↔ (first rs ≡ Refuse x)
+first-exactly x rs = (of-first x rs, first-of x rs)
+
+pub clear-exactly : (rs : List Row) → Clear rs ↔ (first rs ≡ Pass)
+clear-exactly rs = (clear-pass rs, pass-clear rs)
+
+-- Wakes and requeues: what was taken fixes every record and the order of the list afterwards,
+pub took-fixes : {a : LastAnswer} {out on : List ℕ} {target : ℕ} {s u v : State} → Took a out on target s u → Took a out on target s v
+    → ((t : ℕ) → threadOf u t ≡ threadOf v t) × (arrivals u ≡ arrivals v)
+took-fixes g h = (Determined.took-records g h, Determined.took-order g h)
+
+-- and, of a call, the clock and the words.
+pub takes-fixes : {k : Command} {c : Call} {w u v : World} → Takes k c w u → Takes k c w v
+    → ((t : ℕ) → threadOf (u .state) t ≡ threadOf (v .state) t)
+    × (arrivals (u .state) ≡ arrivals (v .state))
+    × (u .state .clock ≡ v .state .clock)
+    × (u .words ≡ v .words)
+takes-fixes = Determined.takes-fixes
+
+-- Counts: from waiting to running; still waiting, at another address; and where moves count.
+pub woke-exactly : (s u : State) (t : ℕ) → (woke s u t ≡ true) ↔ ((threadOf s t .waiting ≡ true) × (threadOf u t .waiting ≡ false))
+woke-exactly s u t = (Counts.woke-is s u t, Counts.is-woke s u t)
+
+pub shifted-exactly : (s u : State) (t : ℕ)
+    → (shifted s u t ≡ true)
+    ↔ ((threadOf s t .waiting ≡ true) × (threadOf u t .waiting ≡ true) × (threadOf s t .uaddr ≡ threadOf u t .uaddr → ⊥))
+shifted-exactly s u t = (Counts.shifted-is s u t, Counts.is-shifted s u t)
+
+pub moves-count : (c : Call) → (countsMoves (CallEvent c) ≡ true) ↔ (commandOf (c .op) ≡ CmpRequeue)
+moves-count c = (Counts.moves-count (commandOf (c .op)), λ e. rw e)
+
+pub none-moves : (p i a v now : ℕ)
+    → (countsMoves (Store p a v) ≡ false) × (countsMoves (Clock now) ≡ false) × (countsMoves (Interrupt p i) ≡ false) × (countsMoves (Query p) ≡ false)
+none-moves p i a v now = (refl, refl, refl, refl)
+
+-- What a count depends on is the same in the world itself, and after a thread has fallen asleep at a word that the call does not name.
+pub named-same : (k : Command) (c : Call) (w : World) → NamedAlike k c w w
+named-same k c w = record { first = same; second = λ e. same; word = λ e. refl }
+  where
+    same : {p a : ℕ} → SameSleepers p a (w .state) (w .state)
+    same = record { order = refl; records = λ t e. refl }
+
+pub named-elsewhere : (k : Command) (c d : Call) (w : World) → Sleeps d w
+    → (d .process ≡ c .process → (d .uaddr ≡ c .uaddr → ⊥) × (d .uaddr ≡ c .uaddr2 → ⊥))
+    → NamedAlike k c w (step (CallEvent d) w .world)
+named-elsewhere = Elsewhere.named-elsewhere
+
+-- A thread's fate. Who slept and runs was released by a call that was answered a count, reached its deadline or was interrupted, and its last answer says which;
+pub came-back : (e : Event) (w : World) (t : ℕ) → before w t .waiting ≡ true → after e w t .waiting ≡ false
+    → ((c : Call) × (n : ℕ) × (e ≡ CallEvent c) × (step e w .answer ≡ Count n) × (elem t (wokenBy (commandOf (c .op)) c w) ≡ true) × (lastNumber (after e w t .last) ≡ pos 0))
+    ⊎ ((now : ℕ) × (e ≡ Clock now) × (expired now (before w t) ≡ true) × (lastNumber (after e w t .last) ≡ negℤ (pos 110)))
+    ⊎ ((p : ℕ) × (i : ℕ) × (e ≡ Interrupt p i) × (t ≡ threadNumber p i) × (lastNumber (after e w t .last) ≡ negℤ (pos 4)))
+came-back e w t on off = Fates.comes-back e w t on off (fate e w t)
+
+-- who ran and sleeps called a wait that sleeps;
+pub fell-asleep : (e : Event) (w : World) (t : ℕ) → before w t .waiting ≡ false → after e w t .waiting ≡ true
+    → (c : Call) × (e ≡ CallEvent c) × (t ≡ caller c) × Sleeps c w
+fell-asleep e w t off on = Fates.falls-asleep e w t off on (fate e w t)
+
+-- who sleeps on was moved by a requeue or has the record that it had; and who runs on has the record that it had.
+pub slept-on : (e : Event) (w : World) (t : ℕ) → before w t .waiting ≡ true → after e w t .waiting ≡ true
+    → (after e w t ≡ before w t)
+    ⊎ ((c : Call) × (e ≡ CallEvent c) × (elem t (movedBy (commandOf (c .op)) c w) ≡ true) × (after e w t ≡ movedTo (c .uaddr2) (before w t)))
+slept-on e w t on still = Fates.sleeps-on e w t on still (fate e w t)
+
+pub ran-on : (e : Event) (w : World) (t : ℕ) → before w t .waiting ≡ false → after e w t .waiting ≡ false → after e w t ≡ before w t
+ran-on e w t off still = Fates.runs-on e w t off still (fate e w t)
+
+pub records-read : (e : Event) (w : World) (t : ℕ)
+    → (before w t ≡ threadOf (w .state) t) × (after e w t ≡ threadOf (step e w .world .state) t)
+records-read e w t = (refl, refl)
+
+-- Asleep at an address, there throughout a history, and there since an event of it.
+pub asleep-there : (t a : ℕ) (w : World) → (asleepThere t a w ≡ true) ↔ ((threadOf (w .state) t .waiting ≡ true) × (threadOf (w .state) t .uaddr ≡ a))
+asleep-there t a w =
+    let r = threadOf (w .state) t in (
+      (λ h. (and-left (r .waiting) (eqb (r .uaddr) a) h, eqb-true (r .uaddr) a (and-right (r .waiting) (eqb (r .uaddr) a) h))),
+      (λ h. and-intro (h .0) (eq-eqb (r .uaddr) a (h .1))),
+    )
+
+pub slept-exactly : (t a : ℕ) (h : List Event) (w : World)
+    → (sleptThrough t a h w ≡ true) ↔ ((n : ℕ) → asleepThere t a (final (take n h) w) ≡ true)
+slept-exactly t a h w = (Slept.slept-at t a h w, Slept.at-slept t a h w)
+
+-- Who enters called a wait that sleeps and saw its number there, or slept at the first word of a requeue that was answered a count;
+-- and it sleeps there afterwards.
+pub entered-by : (t a : ℕ) (e : Event) (w : World) → Enters t a e w
+    → ((c : Call) × (e ≡ CallEvent c) × (t ≡ caller c) × (c .uaddr ≡ a) × (step e w .answer ≡ Asleep) × (wordAt w (c .process) a ≡ c .val))
+    ⊎ ((c : Call) × (n : ℕ) × (e ≡ CallEvent c) × (step e w .answer ≡ Count n) × (c .process ≡ processOf t) × (c .uaddr2 ≡ a) × (asleepThere t (c .uaddr) w ≡ true))
+entered-by = Slept.entered-by
+
+pub entered-asleep : (t a : ℕ) (e : Event) (w : World) → Enters t a e w → asleepThere t a (step e w .world) ≡ true
+entered-asleep = Slept.entered-asleep
+
+pub since-exactly : (t a : ℕ) (h : List Event) (w : World)
+    → Since t a h w
+    ↔ ((earlier : List Event) × (entry : Event) × (later : List Event) × (h ≡ earlier ++ entry ∷ later) × Enters t a entry (final earlier w)
+    × ((n : ℕ) → asleepThere t a (final (take n later) (step entry (final earlier w) .world)) ≡ true))
+since-exactly t a h w = (
+  (λ s. (s .earlier, s .entry, s .later, s .split, s .entered, Slept.slept-at t a (s .later) _ (s .slept))),
+  (λ s. record {
+    earlier = s .0;
+    entry = s .1;
+    later = s .2;
+    split = s .3;
+    entered = s .4;
+    slept = Slept.at-slept t a (s .2) (step (s .1) (final (s .0) w) .world) (s .5);
+  }),
+)
+
+pub since-asleep : (t a : ℕ) (h : List Event) (w : World) → Since t a h w → asleepThere t a (final h w) ≡ true
+since-asleep = Slept.since-asleep
+
+-- Isolation: worlds are alike for a process where three lists are equal: its words, its records and its sleepers in their order.
+pub alike-exactly : (p : ℕ) (u v : World) → length (u .words) ≡ length (v .words) → length (u .state .threads) ≡ length (v .state .threads)
+    → Alike p u v
+    ↔ ((take 1024 (drop (1024 * p) (u .words)) ≡ take 1024 (drop (1024 * p) (v .words)))
+    × (take 8 (drop (8 * p) (u .state .threads)) ≡ take 8 (drop (8 * p) (v .state .threads)))
+    × (filter (λ t. eqb (t / 8) p) (arrivals (u .state)) ≡ filter (λ t. eqb (t / 8) p) (arrivals (v .state))))
+alike-exactly = Alike′.alike-exactly
+
+-- In worlds that are alike for a process, at one time, its next event is answered the same; that event or the clock leaves worlds that are
+-- alike for it, at one time; and every other event leaves each alike to what it was.
+pub alike-next : (p : ℕ) (u v : World) → length (u .words) ≡ memoryWords → tablesOk (u .state) ≡ true → length (v .words) ≡ memoryWords → tablesOk (v .state) ≡ true
+    → u .state .clock ≡ v .state .clock → Alike p u v → (e : Event)
+    → (belongs p e ≡ true → step e u .answer ≡ step e v .answer)
+    × ((belongs p e || isClock e) ≡ true → (step e u .world .state .clock ≡ step e v .world .state .clock) × Alike p (step e u .world) (step e v .world))
+    × ((belongs p e || isClock e) ≡ false → Alike p (step e u .world) u)
+alike-next p u v lu ou lv ov time same e =
+    let g : Valid u = record { memory = lu; sound = tables-sound (u .state) ou } in
+    let h : Valid v = record { memory = lv; sound = tables-sound (v .state) ov } in (
+      Alike′.alike-own p u v g h time same e,
+      (λ k. Alike′.alike-kept p u v g h time same e (Histories.kept-is p e ∙ k)),
+      (λ k. Alike′.alike-other p e u (Histories.kept-is p e ∙ k)),
+    )
+
+-- The tables of cases: what stands in them is what the rules give, and not what is expected.
+pub case-given : (r : Case) → let w = start (replicate 8192 0) in let v = final (r .happens) w in
+    given r
+    ≡ record {
+      happens = r .happens;
+      answers = map answerNumbers (answers (r .happens) w);
+      sleep = sleepers (v .state);
+      ended = endedFrom 0 (v .state .threads);
+      word = wordAt v 0 8;
+    }
+case-given r = refl
+
+pub share-given : (s : Share) → let w = start (replicate 8192 0) in
+    shareOf s ≡ record { process = s .process; kept = keptFor (s .process) mixed; answers = map answerNumbers (answersTo (s .process) mixed w) }
+share-given s = refl
+
+pub unsound-given : (u : Unsound) → unsoundGiven u ≡ record { world = u .world; answers = map answerNumbers (answers each (u .world)) }
+unsound-given u = refl
