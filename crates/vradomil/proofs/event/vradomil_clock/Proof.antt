@@ -1,7 +1,6 @@
 use denote.Ref.{now}
 use mathlib.Core.Path.{_≡_, refl, sym, ap, _∙_}
 use mathlib.Core.Bool.{true, false, cond}
-use mathlib.Core.List.{[], _∷_}
 use lib.IntN.{pos}
 use native.Mathlib.Omega.{arith}
 use mir.Facts.{toZ-pos}
