@@ -1,7 +1,7 @@
 -- Any bytes that a host may lend: they stand for words and for tables that keep the rules, or every event but a panel query is refused.
 use mathlib.Core.Path.{_≡_, refl, sym, ap, subst, subst₂, _∙_}
 use mathlib.Core.Logic.{_⊎_, inl, inr}
-use mathlib.Core.Bool.{true, false}
+use mathlib.Core.Bool.{true, false, not, cond, _||_}
 use mathlib.Core.List.{List, _∷_, map}
 use Prim.Native.Nat.{ℕ, _+_, _*_, _^_, _≤_, _<_}
 use native.Mathlib.Omega.{arith}
@@ -16,11 +16,14 @@ use Rattle.tables.specs.Sizes.{threads, wordBytes, memoryWords}
 use Rattle.tables.specs.Tables.{tablesOk}
 use Rattle.tables.proofs.Sound.{tables-sound}
 use Rattle.rules.specs.declared.event.Event.{Event}
+use Rattle.rules.specs.declared.event.Event.the-variants.{Call as CallEvent, Store, Clock, Interrupt, Query}
 use Rattle.rules.specs.declared.answer.Errno.{Errno}
 use Rattle.rules.specs.declared.answer.Errno.the-variants.{ENXIO, EBADF}
 use Rattle.rules.specs.declared.answer.Verdict.the-variants.{Refuse}
-use Rattle.rules.specs.Answers.{Outcome, isRefused}
-use Rattle.rules.specs.Events.{isQuery, step}
+use Rattle.rules.specs.declared.answer.Answer.the-variants.{Refused}
+use Rattle.rules.specs.Answers.{Outcome, outcome, isRefused}
+use Rattle.rules.specs.Calls.{noProcess}
+use Rattle.rules.specs.Events.{isQuery, step, waitingSet, panelOf, panel}
 use Rattle.rules.specs.History.{final, answers}
 use Rattle.rules.proofs.Rows.{step-refused}
 use Rattle.layout.specs.Layout.{tablesAt, tablesBytes, stateAt, threadAt, tablesSize, timeBytes, clockAt, uaddrAt, bitsetAt, deadlineAt, memorySize}
@@ -29,7 +32,7 @@ use Rattle.layout.proofs.Reading.{clock-read, thread-read}
 use Rattle.layout.proofs.Exact.{words-exact}
 use Rattle.layout.proofs.Checks.{wrong-size, held}
 use Rattle.changes.specs.Change.{FitsThread, Fits}
-use Rattle.vradomil.specs.Host.{seen, hostNumber, BuffersJudged}
+use Rattle.vradomil.specs.Host.{seen, hostNumber, packed, Shows, BuffersJudged}
 use Rattle.vradomil.proofs.Memory.{words-length, word-fits}
 use Rattle.vradomil.proofs.FirstRows.{refused-memory, refused-tables}
 use Rattle.vradomil.proofs.Steps.{event-refused}
@@ -91,19 +94,45 @@ record Same (e : Event) (b m b1 m1 : List ℕ) : Type 0 where
   words : m1 ≡ m
   world : step e (seen b m) .world ≡ seen b m
 
-module _ {b m : List ℕ} (u : Unfit b m) where
-  refused : {e : Event} {b1 m1 : List ℕ} {r : ℤ} → isQuery e ≡ false → Hosted e b m r b1 m1 → Same e b m b1 m1
-  refused {e} some h =
-      let is = step-refused e (seen b m) (u .errno) (event-refused e b m (Refuse (u .errno)) (u .judged) some (u .errno) refl) in
-      let stays = refused-stays h (ap (λ (o : Outcome). isRefused (o .answer)) is) in
-      record { tables = stays .0; words = stays .1; world = ap (λ (o : Outcome). o .world) is }
+module _ (e : Event) {b m : List ℕ} (u : Unfit b m) (some : isQuery e ≡ false) where
+  refused-step : step e (seen b m) ≡ outcome (Refused (u .errno)) (seen b m)
+  refused-step = step-refused e (seen b m) (u .errno) (event-refused e b m (Refuse (u .errno)) (u .judged) some (u .errno) refl)
 
-  same : {e : Event} {b1 m1 : List ℕ} {r : ℤ} → Hosted e b m r b1 m1 → Same e b m b1 m1
-  same (called h) = refused refl (called h)
-  same (stored h) = refused refl (stored h)
-  same (clocked h) = refused refl (clocked h)
-  same (interrupted h) = refused refl (interrupted h)
-  same (queried {p} h) = record { tables = refl; words = refl; world = asked p (seen b m) }
+  pub refused-number : {b1 m1 : List ℕ} {r : ℤ} → Hosted e b m r b1 m1 → r ≡ hostNumber (Refused (u .errno))
+  refused-number h = number-is h ∙ ap (λ (o : Outcome). hostNumber (o .answer)) refused-step
+
+  refused : {b1 m1 : List ℕ} {r : ℤ} → Hosted e b m r b1 m1 → Same e b m b1 m1
+  refused h =
+      let stays = refused-stays h (ap (λ (o : Outcome). isRefused (o .answer)) refused-step) in
+      record { tables = stays .0; words = stays .1; world = ap (λ (o : Outcome). o .world) refused-step }
+
+same : {e : Event} {b m b1 m1 : List ℕ} {r : ℤ} → Unfit b m → Hosted e b m r b1 m1 → Same e b m b1 m1
+same {e} u (called h) = refused e u refl (called h)
+same {e} u (stored h) = refused e u refl (stored h)
+same {e} u (clocked h) = refused e u refl (clocked h)
+same {e} u (interrupted h) = refused e u refl (interrupted h)
+same u (queried {p} {n} {b} {m} h) = record { tables = refl; words = refl; world = asked p (seen b m) }
+
+-- an event that is no panel query
+not-query : (e : Event) → ((p : ℕ) → e ≡ Query p → ⊥) → isQuery e ≡ false
+not-query (CallEvent c) h = refl
+not-query (Store p a v) h = refl
+not-query (Clock now) h = refl
+not-query (Interrupt p i) h = refl
+not-query (Query p) h = absurd (h p refl)
+
+-- words of another length, and tables of another length
+module _ {e : Event} {b m b1 m1 : List ℕ} {r : ℤ} (h : Hosted e b m r b1 m1) (some : (p : ℕ) → e ≡ Query p → ⊥) where
+  pub wrong-memory : (length m ≡ memorySize → ⊥) → r ≡ hostNumber (Refused ENXIO)
+  wrong-memory other = refused-number e (record { errno = ENXIO; judged = refused-memory b m other }) (not-query e some) h
+
+  pub wrong-tables : length m ≡ memorySize → (length b ≡ tablesSize → ⊥) → r ≡ hostNumber (Refused EBADF)
+  wrong-tables size other = refused-number e (record { errno = EBADF; judged = refused-tables b m size (wrong-size b other) }) (not-query e some) h
+
+pub wrong-panel : (p n : ℕ) (b : List ℕ) → Shows p b n → (length b ≡ tablesSize → ⊥) → n ≡ packed (panelOf 0)
+unfolding panel
+wrong-panel p n b h other = h .number ∙ ap (λ x. packed (panelOf (cond (noProcess p || not x) 0 (waitingSet p (tablesAt b))))) (wrong-size b other)
+    ∙ cases (noProcess p) (λ e. rw e) (λ e. rw e)
 
 -- one event: the bytes that it leaves stand for what the rules leave
 after : {e : Event} {b m b1 m1 : List ℕ} {r : ℤ} → Lent b m → Hosted e b m r b1 m1 → (seen b1 m1 ≡ step e (seen b m) .world) × Lent b1 m1

@@ -4,9 +4,11 @@ use mathlib.Core.Path.{_≡_, sym, ap, _∙_, subst₂}
 use mathlib.Core.Logic.{_↔_}
 use mathlib.Core.List.{List, map}
 use Prim.Native.Nat.{ℕ, _<_}
-use lib.IntN.{ℤ, negsuc}
+use lib.IntN.{ℤ, pos, negsuc, negℤ}
+use lib.Count.{ones, trailingZeros}
 use lib.ListN.{length, replicate}
 use Rattle.rules.specs.declared.event.Event.{Event}
+use Rattle.rules.specs.declared.event.Event.the-variants.{Query}
 use Rattle.tables.specs.Sizes.{bytesPerProcess, memoryWords}
 use Rattle.tables.specs.Tables.{wordAt, fresh}
 use Rattle.rules.specs.Events.{step}
@@ -17,10 +19,10 @@ use Rattle.lists.specs.LittleEndian.{Bytes}
 use Rattle.layout.specs.Layout.{tablesBytes, wordsBytes, wordsAt, memorySize}
 use Rattle.vradomil.specs.Host.{seen, hostNumber}
 use Rattle.vradomil.proofs.Memory.{words-length}
-use Rattle.hosting.specs.Hosts.{Hosted, HostRuns, HistoryFits}
+use Rattle.hosting.specs.Hosts.{Hosted, queried, HostRuns, HistoryFits}
 use Rattle.hosting.specs.Day.{day, dayNumbers}
 use Rattle.hosting.proofs.Hosting.{number-is, refused-stays, below-refused, entries-map}
-use Rattle.hosting.proofs.Buffers.{lent, ran}
+use Rattle.hosting.proofs.Buffers.{lent, wrong-memory, wrong-tables, wrong-panel, ran}
 use Rattle.hosting.proofs.Running.{runs, all-fit, runs-one-way}
 use Rattle.hosting.proofs.Starting.{fresh-seen, fresh-low, zeros-lent, zeros-seen}
 use Rattle.hosting.proofs.Day.{day-numbers}
@@ -41,6 +43,15 @@ host-runs-one-way run other = runs-one-way run other
 pub host-run : {h : List Event} {b m b′ m′ : List ℕ} {rs : List ℤ} → Bytes b → Bytes m → HostRuns h b m rs b′ m′
     → (rs ≡ map hostNumber (answers h (seen b m))) × (seen b′ m′ ≡ final h (seen b m))
 host-run {b = b} {m} lb lm run = ran run (lent b m lb lm)
+
+-- "words: 32,768 bytes, .. another length is -6; tables of a wrong length .. are -9, and 0, 0, 8 to a panel query"
+pub host-lengths : {e : Event} {b m b′ m′ : List ℕ} {r : ℤ} → Hosted e b m r b′ m′ → ((p : ℕ) → e ≡ Query p → ⊥)
+    → ((length m ≡ 32768 → ⊥) → r ≡ negℤ (pos 6)) × (length m ≡ 32768 → (length b ≡ 1296 → ⊥) → r ≡ negℤ (pos 9))
+host-lengths h some = (wrong-memory h some, wrong-tables h some)
+
+pub host-query-length : {p : ℕ} {b m b′ m′ : List ℕ} {r : ℤ} → Hosted (Query p) b m r b′ m′ → (length b ≡ 1296 → ⊥) → r ≡ pos 0x080000
+unfolding ones trailingZeros
+host-query-length (queried {p} {n} {b} h) other = ap pos (wrong-panel p n b h other)
 
 -- A number below 0 says that no byte changed.
 pub host-refusal : {e : Event} {b m b′ m′ : List ℕ} {n : ℕ} → Hosted e b m (negsuc n) b′ m′ → (b′ ≡ b) × (m′ ≡ m)
