@@ -37,17 +37,20 @@ def replacements(edit):
     """The replacements of an edit and of each `wrong:` in it, read as rt reads them: [(fields, replacements)], the first before any."""
     groups, file, old = [({}, [])], '', ''
     for line in edit.split('\n'):
-        key, _, value = line.partition(': ')
+        key, colon, value = line.partition(':')
+        value = value.removeprefix(' ')
+        if not colon:
+            continue
         if key == 'wrong':
-            groups.append(({'wrong': value}, []))
+            groups.append(({key: value}, []))
         elif key in ('fn', 'law', 'not seen'):
             groups[-1][0].setdefault(key, value)
         elif key == 'file':
             file = value
         elif key == 'old':
             old = value
-        elif line.startswith('new:'):
-            groups[-1][1].append(Replacement(file, old, line[4:].removeprefix(' ')))
+        elif key == 'new':
+            groups[-1][1].append(Replacement(file, old, value))
     return groups
 
 
@@ -64,9 +67,9 @@ def edits(crate):
             folder = 'src/' if what == 'fn' else 'specs/'
             if not wrong.where or not changes or not all(r.file.startswith(folder) for r in changes):
                 faults.append(f'{crate}/{label}: {wrong.name} has no line fn: with replacements in src/, nor law: with replacements in specs/')
-        if any(r.file.startswith('src/') for r in loose):
-            faults.append(f'{crate}/{label}: a replacement in src/ that names no wrong program and its function')
-        if len(loose) > 1 or (loose and wrongs):
+        if any(not r.file.startswith('specs/') for r in loose):
+            faults.append(f'{crate}/{label}: a replacement outside specs/ that names no wrong program and its function')
+        elif len(loose) > 1 or (loose and wrongs):
             faults.append(f'{crate}/{label}: several replacements in specs/, and not each names what is wrong and the law that is false then')
         yield label, loose, wrongs, faults
 
