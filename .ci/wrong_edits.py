@@ -1,8 +1,8 @@
 """The must-fail edits as .ci/wrong-programs and .ci/try-wrong-programs read them, and the record of what the wrong programs did.
 
 An edit of src/ holds wrong programs, and one of specs/ may hold wrong definitions: each is a line `wrong: NAME`, a line `fn: PATH` (the
-function that is wrong then) or `law: FILE.NAME` (the law of proofs/FILE.antt that is false then), a line that says what is wrong, and its
-replacements. An edit of specs/ with one replacement and no `wrong:` line goes by the name of its file."""
+function that does not meet its contract then) or, for a definition, `law: FILE.NAME` (the law of proofs/FILE.antt that is false then), a
+line that says what is wrong, and its replacements. An edit of specs/ with one replacement and no `wrong:` line goes by the name of its file."""
 import collections, glob, hashlib, os, re
 
 TRIED = '.ci/wrong-programs.tried'
@@ -12,6 +12,14 @@ Replacement = collections.namedtuple('Replacement', 'file old new')
 
 # what: `fn` or `law`; unseen: why no run can show it, or ''
 Wrong = collections.namedtuple('Wrong', 'crate label name what where unseen replacements')
+
+
+def is_program(wrong):
+    return all(r.file.startswith('src/') for r in wrong.replacements)
+
+
+def is_definition(wrong):
+    return all(r.file.startswith('specs/') for r in wrong.replacements)
 
 
 def read(path):
@@ -64,9 +72,8 @@ def edits(crate):
             what = 'fn' if 'fn' in fields else 'law'
             wrong = Wrong(crate, label, fields['wrong'], what, fields.get(what, ''), fields.get('not seen', ''), changes)
             wrongs.append(wrong)
-            folder = 'src/' if what == 'fn' else 'specs/'
-            if not wrong.where or not changes or not all(r.file.startswith(folder) for r in changes):
-                faults.append(f'{crate}/{label}: {wrong.name} has no line fn: with replacements in src/, nor law: with replacements in specs/')
+            if not wrong.where or not changes or not (is_definition(wrong) or what == 'fn' and is_program(wrong)):
+                faults.append(f'{crate}/{label}: {wrong.name} is no wrong program (fn: and replacements in src/) nor definition (law: or fn:, and specs/)')
         if any(not r.file.startswith('specs/') for r in loose):
             faults.append(f'{crate}/{label}: a replacement outside specs/ that names no wrong program and its function')
         elif len(loose) > 1 or (loose and wrongs):
@@ -75,7 +82,7 @@ def edits(crate):
 
 
 def wrong_programs(crate):
-    return [wrong for _, _, wrongs, _ in edits(crate) for wrong in wrongs if wrong.what == 'fn']
+    return [wrong for _, _, wrongs, _ in edits(crate) for wrong in wrongs if is_program(wrong)]
 
 
 def key_of(wrong):
