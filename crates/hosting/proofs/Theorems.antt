@@ -1,6 +1,6 @@
 -- What is proved of whole histories that a host in C runs through the library, by the contracts of its entry points alone. What a run takes for
 -- known of one event is `Hosted`, which the function `pass` (src/lib.rt) ensures of the code for every event.
-use mathlib.Core.Path.{_≡_, sym, ap, _∙_, subst₂}
+use mathlib.Core.Path.{_≡_, refl, sym, ap, _∙_, subst₂}
 use mathlib.Core.Logic.{_↔_}
 use mathlib.Core.List.{List, map}
 use Prim.Native.Nat.{ℕ, _<_}
@@ -16,7 +16,7 @@ use Rattle.rules.specs.History.{start, final, answers, keptFor, entriesOf}
 use Rattle.rules.specs.Claims.{Alike}
 use Rattle.rules.proofs.Theorems.{isolation}
 use Rattle.lists.specs.LittleEndian.{Bytes}
-use Rattle.layout.specs.Layout.{tablesBytes, wordsBytes, wordsAt, memorySize}
+use Rattle.layout.specs.Layout.{tablesBytes, tablesSize, wordsBytes, wordsAt, memorySize}
 use Rattle.vradomil.specs.Host.{seen, hostNumber}
 use Rattle.vradomil.proofs.Memory.{words-length}
 use Rattle.hosting.specs.Hosts.{Hosted, queried, HostRuns, HistoryFits}
@@ -44,12 +44,16 @@ pub host-run : {h : List Event} {b m b′ m′ : List ℕ} {rs : List ℤ} → B
     → (rs ≡ map hostNumber (answers h (seen b m))) × (seen b′ m′ ≡ final h (seen b m))
 host-run {b = b} {m} lb lm run = ran run (lent b m lb lm)
 
+-- the lengths of the two buffers
+pub host-sizes : (tablesSize ≡ 1296) × (memorySize ≡ 32768)
+host-sizes = (refl, refl)
+
 -- "words: 32,768 bytes, .. another length is -6; tables of a wrong length .. are -9, and 0, 0, 8 to a panel query"
 pub host-lengths : {e : Event} {b m b′ m′ : List ℕ} {r : ℤ} → Hosted e b m r b′ m′ → ((p : ℕ) → e ≡ Query p → ⊥)
-    → ((length m ≡ 32768 → ⊥) → r ≡ negℤ (pos 6)) × (length m ≡ 32768 → (length b ≡ 1296 → ⊥) → r ≡ negℤ (pos 9))
+    → ((length m ≡ memorySize → ⊥) → r ≡ negℤ (pos 6)) × (length m ≡ memorySize → (length b ≡ tablesSize → ⊥) → r ≡ negℤ (pos 9))
 host-lengths h some = (wrong-memory h some, wrong-tables h some)
 
-pub host-query-length : {p : ℕ} {b m b′ m′ : List ℕ} {r : ℤ} → Hosted (Query p) b m r b′ m′ → (length b ≡ 1296 → ⊥) → r ≡ pos 0x080000
+pub host-query-length : {p : ℕ} {b m b′ m′ : List ℕ} {r : ℤ} → Hosted (Query p) b m r b′ m′ → (length b ≡ tablesSize → ⊥) → r ≡ pos 0x080000
 unfolding ones trailingZeros
 host-query-length (queried {p} {n} {b} h) other = ap pos (wrong-panel p n b h other)
 

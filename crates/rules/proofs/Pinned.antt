@@ -23,7 +23,7 @@ use Rattle.rules.specs.declared.event.Event.the-variants.{Call as CallEv
 use Rattle.rules.specs.declared.answer.Errno.{Errno}
 use Rattle.rules.specs.declared.answer.Verdict.the-variants.{Refuse, Pass}
 use Rattle.rules.specs.declared.answer.Answer.the-variants.{Asleep, Count}
-use Rattle.tables.specs.Sizes.{threads, memoryWords}
+use Rattle.tables.specs.Sizes.{processes, threadsPerProcess, threads, noEntry, wordsPerProcess, bytesPerProcess, memoryWords, maxCap}
 use Rattle.tables.specs.Tables.{World, world, fresh, expired, threadNumber, processOf, threadOf, arrivals, tablesOk, movedTo, wordAt, aligned, outside, expiredSleepers}
 use Rattle.rules.specs.Answers.{Row, first, answerNumbers, lastNumber}
 use Rattle.rules.specs.Numbers.{refuse}
@@ -49,6 +49,11 @@ use Rattle.rules.proofs.Histories as Histories
 use Rattle.rules.proofs.Numbers.{by-number}
 
 -- The numbers, as document 01 has them.
+
+-- "The display's fixed sizes"
+pub sizes : (processes ≡ 8) × (threadsPerProcess ≡ 8) × (threads ≡ 64) × (noEntry ≡ 255) × (wordsPerProcess ≡ 1024) × (bytesPerProcess ≡ 4096)
+    × (memoryWords ≡ 8192) × (maxCap ≡ 2147483647)
+sizes = (refl, refl, refl, refl, refl, refl, refl, refl)
 
 -- "Answers by number" of a call, row by row in the paper's order, and else "asleep" or a count.
 pub call-by-number : (c : Call) (w : World) → let k = commandOf (c .op) in
@@ -94,7 +99,7 @@ interrupt-by-number p i w = by-number (Interrupt p i) w ∙ cases (threadOf (w .
 
 -- "one byte .., the number of set bits, and the lowest set bit, or 8 if none", in this order
 pub query-by-number : (p : ℕ) (w : World) → let waiting = cond (noProcess p || brokenTables w) 0 (waitingSet p (w .state)) in
-    answerNumbers (step (Query p) w .answer) ≡ pos waiting ∷ pos (ones waiting) ∷ pos (trailingZeros 8 waiting) ∷ []
+    answerNumbers (step (Query p) w .answer) ≡ pos waiting ∷ pos (ones waiting) ∷ pos (trailingZeros threadsPerProcess waiting) ∷ []
 unfolding refusals effect panel
 query-by-number p w = by-number (Query p) w
 
@@ -283,9 +288,9 @@ since-asleep = Slept.since-asleep
 -- Isolation: worlds are alike for a process where three lists are equal: its words, its records and its sleepers in their order.
 pub alike-exactly : (p : ℕ) (u v : World) → length (u .words) ≡ length (v .words) → length (u .state .threads) ≡ length (v .state .threads)
     → Alike p u v
-    ↔ ((take 1024 (drop (1024 * p) (u .words)) ≡ take 1024 (drop (1024 * p) (v .words)))
-    × (take 8 (drop (8 * p) (u .state .threads)) ≡ take 8 (drop (8 * p) (v .state .threads)))
-    × (filter (λ t. eqb (t / 8) p) (arrivals (u .state)) ≡ filter (λ t. eqb (t / 8) p) (arrivals (v .state))))
+    ↔ ((take wordsPerProcess (drop (wordsPerProcess * p) (u .words)) ≡ take wordsPerProcess (drop (wordsPerProcess * p) (v .words)))
+    × (take threadsPerProcess (drop (threadsPerProcess * p) (u .state .threads)) ≡ take threadsPerProcess (drop (threadsPerProcess * p) (v .state .threads)))
+    × (filter (λ t. eqb (t / threadsPerProcess) p) (arrivals (u .state)) ≡ filter (λ t. eqb (t / threadsPerProcess) p) (arrivals (v .state))))
 alike-exactly = Alike′.alike-exactly
 
 -- In worlds that are alike for a process, at one time, its next event is answered the same; that event or the clock leaves worlds that are
@@ -304,7 +309,7 @@ alike-next p u v lu ou lv ov time same e =
     )
 
 -- The tables of cases: what stands in them is what the rules give, and not what is expected.
-pub case-given : (r : Case) → let w = start (replicate 8192 0) in let v = final (r .happens) w in
+pub case-given : (r : Case) → let w = start (replicate memoryWords 0) in let v = final (r .happens) w in
     given r
     ≡ record {
       happens = r .happens;
@@ -315,7 +320,7 @@ pub case-given : (r : Case) → let w = start (replicate 8192 0) in let v = fina
     }
 case-given r = refl
 
-pub share-given : (s : Share) → let w = start (replicate 8192 0) in
+pub share-given : (s : Share) → let w = start (replicate memoryWords 0) in
     shareOf s ≡ record { process = s .process; kept = keptFor (s .process) mixed; answers = map answerNumbers (answersTo (s .process) mixed w) }
 share-given s = refl
 

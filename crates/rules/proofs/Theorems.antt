@@ -18,7 +18,7 @@ use Rattle.rules.specs.declared.event.Event.{Event}
 use Rattle.rules.specs.declared.event.Event.the-variants.{Call as CallEvent, Clock, Interrupt}
 use Rattle.rules.specs.declared.answer.Errno.{Errno}
 use Rattle.rules.specs.declared.answer.Answer.the-variants.{Asleep, Count, Refused}
-use Rattle.tables.specs.Sizes.{bytesPerProcess, memoryWords}
+use Rattle.tables.specs.Sizes.{threads, bytesPerProcess, memoryWords}
 use Rattle.tables.specs.Tables.{World, threadNumber, processOf, wordAt, ended, threadOf, arrivals, sleepsAt, queue, expired, expiredSleepers, tablesOk, withState, fallAsleep}
 use Rattle.rules.specs.Answers.{asleepNumber, outcome}
 use Rattle.rules.specs.Commands.{commandOf}
@@ -121,7 +121,7 @@ none-overtaken-second = Order.second-overtaken
 
 -- How many: as many as the cap and the matching sleepers allow, and then as many of the rest as the second cap allows.
 pub how-many : (k : Command) (c : Call) (s : State) → tablesOk s ≡ true
-    → let there = countBelow 64 (λ t. matches k c (threadOf s t) && sleepsAt (c .process) (c .uaddr) s t) in
+    → let there = countBelow threads (λ t. matches k c (threadOf s t) && sleepsAt (c .process) (c .uaddr) s t) in
     (length (released k c s) ≡ min (c .val) there) × (length (moved k c s) ≡ min (secondCap c) (there - c .val))
 how-many k c s h = (Order.released-many k c s (tables-sound s h), Order.moved-many k c s (tables-sound s h))
 
@@ -136,8 +136,8 @@ pub counted : (e : Event) (w : World) (n : ℕ) → step e w .answer ≡ Count n
     → n ≡ wokenCount w (step e w .world) + cond (countsMoves e) (shiftedCount w (step e w .world)) 0
 counted = Taken.counted
 
--- No count is above 64, so none is ever as high as "asleep".
-pub count-most : (e : Event) (w : World) (n : ℕ) → step e w .answer ≡ Count n → n ≤ 64
+-- No count is above the number of threads, so none is ever as high as "asleep".
+pub count-most : (e : Event) (w : World) (n : ℕ) → step e w .answer ≡ Count n → n ≤ threads
 count-most = Counts.count-most
 
 pub count-below-asleep : (e : Event) (w : World) (n : ℕ) → step e w .answer ≡ Count n → n < asleepNumber

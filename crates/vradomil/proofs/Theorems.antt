@@ -104,7 +104,7 @@ query-fixed f g = f .number ∙ sym (g .number)
 
 -- vradomil_fresh: 1,296 bytes become those of the fresh tables, and the answer is 0; bytes of another length stay, and the answer is -9.
 pub fresh-laid : {b after : List ℕ} {r : ℤ} → Initialised b r after
-    → (length b ≡ 1296 → (r ≡ pos 0) × (after ≡ tablesBytes fresh)) × ((length b ≡ 1296 → ⊥) → (r ≡ negℤ (pos 9)) × (after ≡ b))
+    → (length b ≡ tablesSize → (r ≡ pos 0) × (after ≡ tablesBytes fresh)) × ((length b ≡ tablesSize → ⊥) → (r ≡ negℤ (pos 9)) × (after ≡ b))
 fresh-laid {b} {after} {r} f = (λ e. laid true (eq-eqb (length b) tablesSize e), λ e. laid false (ne-eqb (length b) tablesSize e))
   where
     laid : (x : Bool) → eqb (length b) tablesSize ≡ x → (r ≡ hostNumber (cond x (Count 0) (Refused EBADF))) × (after ≡ cond x (tablesBytes fresh) b)
