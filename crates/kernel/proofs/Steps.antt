@@ -14,11 +14,12 @@ use Rattle.rules.specs.Events.{refusals, effect, step}
 use Rattle.tables.specs.Tables.{world}
 use Rattle.kernel.specs.Follows.{Follows}
 use Rattle.rules.specs.Claims.{Clear}
+use Rattle.rules.proofs.Theorems.{answers-by-number}
 use Rattle.rules.proofs.Rows.{pass-clear, step-refused, step-passed}
 
 pub follows : (e : Event) (s : State) (ws : List ℕ) (r : Answered) (after : List ℕ) → r ≡ answered (step e (world s ws))
     → after ≡ step e (world s ws) .world .words → Follows e s ws r after
-follows e s ws r after is words = record { result = is; numbers = ap (λ (a : Answered). answerNumbers (a .answer)) is; words = words }
+follows e s ws r after is words = record { result = is; numbers = ap (λ (a : Answered). answerNumbers (a .answer)) is ∙ answers-by-number e (world s ws); words = words }
 
 module _ (e : Event) (s : State) (ws : List ℕ) (v : Verdict) (tested : v ≡ first (refusals e (world s ws))) where
   -- no row applies to an event that is let through

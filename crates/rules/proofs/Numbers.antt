@@ -1,13 +1,21 @@
--- What an event is answered, by number: the first row that applies, and else what the event does.
-use mathlib.Core.Path.{_≡_, refl}
+-- What an event is answered, by the paper's numbers: the first row that applies, and else what the event does.
+use mathlib.Core.Path.{_≡_, refl, ap, _∙_}
 use mathlib.Core.List.{List, [], _∷_}
-use lib.IntN.{ℤ}
+use native.Mathlib.Nat.{add-zero}
+use lib.ListN.{length}
+use lib.IntN.{ℤ, pos}
 use Rattle.lists.proofs.Tests.{cases}
+use Rattle.rules.specs.declared.event.Command.{Command}
+use Rattle.rules.specs.declared.event.Command.the-variants.{Wait, Wake, Requeue, CmpRequeue, WakeOp, WaitBitset, WakeBitset, Unknown}
+use Rattle.rules.specs.declared.event.Call.{Call}
 use Rattle.rules.specs.declared.event.Event.{Event}
-use Rattle.tables.specs.Tables.{World}
+use Rattle.rules.specs.declared.event.Event.the-variants.{Call as CallEvent, Store, Clock, Interrupt, Query}
+use Rattle.tables.specs.Tables.{World, threadNumber, threadOf}
 use Rattle.rules.specs.Answers.{Row, Outcome, errnoNumber, answerNumbers, first, judged}
-use Rattle.rules.specs.Numbers.{refuse}
-use Rattle.rules.specs.Events.{refusals, effect, step}
+use Rattle.rules.specs.Commands.{commandOf}
+use Rattle.rules.specs.Calls.{released, callRows, wait, wake, requeue, wakeOp, callEffect}
+use Rattle.rules.specs.Events.{refusals, clockEffect, interruptEffect, panel, effect, step}
+use Rattle.rules.specs.Numbers.{refuse, done, numbersOf}
 
 abbrev pub refuseBy : List Row → List ℤ → List ℤ
 refuseBy [] below = below
@@ -17,6 +25,28 @@ judged-number : (rs : List Row) (o : Outcome) (w : World) → answerNumbers (jud
 judged-number [] o w = refl
 judged-number (r ∷ rs) o w = cases (r .applies) (λ e. rw e) (λ e. rw e (judged-number rs o w))
 
-pub by-number : (e : Event) (w : World) → answerNumbers (step e w .answer) ≡ refuseBy (refusals e w) (answerNumbers (effect e w .answer))
+step-number : (e : Event) (w : World) → answerNumbers (step e w .answer) ≡ refuseBy (refusals e w) (answerNumbers (effect e w .answer))
 unfolding step
-by-number e w = judged-number (refusals e w) (effect e w) w
+step-number e w = judged-number (refusals e w) (effect e w) w
+
+call-done : (k : Command) (c : Call) (w : World) → answerNumbers (callEffect k c w .answer) ≡ done k c w
+unfolding callEffect wait wake requeue wakeOp
+call-done Wait c w = refl
+call-done WaitBitset c w = refl
+call-done Wake c w = refl
+call-done WakeBitset c w = refl
+call-done Requeue c w = ap (λ n. pos n ∷ []) (add-zero (length (released Requeue c (w .state))))
+call-done CmpRequeue c w = refl
+call-done WakeOp c w = refl
+call-done Unknown c w = refl
+
+effect-number : (e : Event) (w : World) → refuseBy (refusals e w) (answerNumbers (effect e w .answer)) ≡ numbersOf e w
+unfolding numbersOf refusals callRows effect clockEffect interruptEffect panel
+effect-number (CallEvent c) w = ap (refuseBy (refusals (CallEvent c) w)) (call-done (commandOf (c .op)) c w)
+effect-number (Store p a v) w = refl
+effect-number (Clock now) w = refl
+effect-number (Interrupt p i) w = cases (threadOf (w .state) (threadNumber p i) .waiting) (λ e. rw e) (λ e. rw e)
+effect-number (Query p) w = refl
+
+pub by-number : (e : Event) (w : World) → answerNumbers (step e w .answer) ≡ numbersOf e w
+by-number e w = step-number e w ∙ effect-number e w

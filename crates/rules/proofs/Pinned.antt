@@ -1,17 +1,16 @@
 -- Laws that fix the words in which the theorems speak: each says, of a definition in specs/, what only the right one meets.
 use mathlib.Core.Path.{_≡_, refl, ap, _∙_}
-use mathlib.Core.Bool.{true, false, not, cond, _&&_, _||_}
+use mathlib.Core.Bool.{true, false, cond, _||_}
 use mathlib.Core.List.{List, [], _∷_, _++_, map}
 use mathlib.Core.Logic.{_⊎_, _↔_}
 use Prim.Native.Nat.{ℕ, _*_, _/_}
 use lib.ListN.{length, take, drop, replicate}
-use lib.Dec.{eqb, ltb}
-use lib.Count.{ones, trailingZeros}
+use lib.Dec.{eqb}
 use lib.IntN.{pos, negℤ}
 use borrow.Author.Tests.{eqb-true, eq-eqb}
 use Rattle.lists.specs.Lists.{filter, elem}
 use Rattle.lists.proofs.Filter.{getD-replicated}
-use Rattle.lists.proofs.Tests.{cases, eqb-refl, and-intro, and-left, and-right}
+use Rattle.lists.proofs.Tests.{eqb-refl, and-intro, and-left, and-right}
 use Rattle.tables.specs.declared.State.{State}
 use Rattle.tables.specs.declared.Thread.{Thread}
 use Rattle.tables.specs.declared.LastAnswer.{LastAnswer}
@@ -24,13 +23,11 @@ use Rattle.rules.specs.declared.answer.Errno.{Errno}
 use Rattle.rules.specs.declared.answer.Verdict.the-variants.{Refuse, Pass}
 use Rattle.rules.specs.declared.answer.Answer.the-variants.{Asleep, Count}
 use Rattle.tables.specs.Sizes.{processes, threadsPerProcess, threads, noEntry, wordsPerProcess, bytesPerProcess, memoryWords, maxCap}
-use Rattle.tables.specs.Tables.{World, world, fresh, expired, threadNumber, processOf, threadOf, arrivals, tablesOk, movedTo, wordAt, aligned, outside, expiredSleepers}
+use Rattle.tables.specs.Tables.{World, world, fresh, expired, threadNumber, processOf, threadOf, arrivals, tablesOk, movedTo, wordAt}
 use Rattle.rules.specs.Answers.{Row, first, answerNumbers, lastNumber}
-use Rattle.rules.specs.Numbers.{refuse}
-use Rattle.rules.specs.Commands.{commandOf, notImplemented}
-use Rattle.rules.specs.WakeOp.{undefinedOp}
-use Rattle.rules.specs.Calls.{wrongMemory, brokenTables, noProcess, noThread, caller, badArgument, badAddress, isWakeOp, differs, late, full, callRows, callEffect}
-use Rattle.rules.specs.Events.{refusals, effect, step, clockEffect, interruptEffect, waitingSet, panel}
+use Rattle.rules.specs.Commands.{commandOf}
+use Rattle.rules.specs.Calls.{caller}
+use Rattle.rules.specs.Events.{step}
 use Rattle.rules.specs.History.{start, final, answers, isClock, belongs, keptFor, entriesOf, answersTo}
 use Rattle.rules.specs.Claims.{FirstOf, Clear, Sleeps, Took, Takes, wokenBy, movedBy, woke, shifted, countsMoves, SameSleepers, NamedAlike, before, after, asleepThere, Enters, sleptThrough, Since, Alike}
 use Rattle.rules.specs.Cases.{Case, sleepers, endedFrom, given, Share, mixed, shareOf, Unsound, each, unsoundGiven}
@@ -46,71 +43,13 @@ use Rattle.rules.proofs.Elsewhere as Elsewhere
 use Rattle.rules.proofs.Fates as Fates
 use Rattle.rules.proofs.Counts as Counts
 use Rattle.rules.proofs.Histories as Histories
-use Rattle.rules.proofs.Numbers.{by-number}
-
--- The numbers, as document 01 has them.
 
 -- "The display's fixed sizes"
 pub sizes : (processes ≡ 8) × (threadsPerProcess ≡ 8) × (threads ≡ 64) × (noEntry ≡ 255) × (wordsPerProcess ≡ 1024) × (bytesPerProcess ≡ 4096)
     × (memoryWords ≡ 8192) × (maxCap ≡ 2147483647)
 sizes = (refl, refl, refl, refl, refl, refl, refl, refl)
 
--- "Answers by number" of a call, row by row in the paper's order, and else "asleep" or a count.
-pub call-by-number : (c : Call) (w : World) → let k = commandOf (c .op) in
-    answerNumbers (step (CallEvent c) w .answer)
-    ≡ refuse 6 (wrongMemory w)
-    (refuse 9 (brokenTables w)
-    (refuse 3 (noThread (c .process) (c .index))
-    (refuse 16 (threadOf (w .state) (caller c) .waiting)
-    (refuse 38 (notImplemented (c .op))
-    (refuse 22 (badArgument k c)
-    (refuse 14 (badAddress k c)
-    (refuse 38 (isWakeOp k && undefinedOp (c .val3))
-    (refuse 11 (differs k c (wordAt w (c .process) (c .uaddr)))
-    (refuse 110 (late k c (w .state .clock))
-    (refuse 12 (full (w .state .count))
-    (answerNumbers (callEffect k c w .answer))))))))))))
-unfolding refusals callRows effect
-call-by-number c w = by-number (CallEvent c) w
-
-pub store-by-number : (p a v : ℕ) (w : World)
-    → answerNumbers (step (Store p a v) w .answer)
-    ≡ refuse 6 (wrongMemory w) (refuse 9 (brokenTables w) (refuse 3 (noProcess p) (refuse 22 (not (aligned a)) (refuse 14 (outside a) (pos 0 ∷ [])))))
-unfolding refusals effect
-store-by-number p a v w = by-number (Store p a v) w
-
-pub clock-by-number : (now : ℕ) (w : World)
-    → answerNumbers (step (Clock now) w .answer)
-    ≡ refuse 6 (wrongMemory w)
-    (refuse 9 (brokenTables w)
-    (refuse 22 (ltb now (w .state .clock))
-    (pos (length (expiredSleepers now (w .state))) ∷ [])))
-unfolding refusals effect clockEffect
-clock-by-number now w = by-number (Clock now) w
-
-pub interrupt-by-number : (p i : ℕ) (w : World)
-    → answerNumbers (step (Interrupt p i) w .answer)
-    ≡ refuse 6 (wrongMemory w)
-    (refuse 9 (brokenTables w)
-    (refuse 3 (noThread p i)
-    (cond (threadOf (w .state) (threadNumber p i) .waiting) (pos 1 ∷ []) (pos 0 ∷ []))))
-unfolding refusals effect interruptEffect
-interrupt-by-number p i w = by-number (Interrupt p i) w ∙ cases (threadOf (w .state) (threadNumber p i) .waiting) (λ e. rw e) (λ e. rw e)
-
--- "one byte .., the number of set bits, and the lowest set bit, or 8 if none", in this order
-pub query-by-number : (p : ℕ) (w : World) → let waiting = cond (noProcess p || brokenTables w) 0 (waitingSet p (w .state)) in
-    answerNumbers (step (Query p) w .answer) ≡ pos waiting ∷ pos (ones waiting) ∷ pos (trailingZeros threadsPerProcess waiting) ∷ []
-unfolding refusals effect panel
-query-by-number p w = by-number (Query p) w
-
--- "asleep" to a host, and a count
-pub asleep-by-number : answerNumbers Asleep ≡ pos 2147483647 ∷ []
-asleep-by-number = refl
-
-pub count-by-number : (n : ℕ) → answerNumbers (Count n) ≡ pos n ∷ []
-count-by-number n = refl
-
--- "The last answer is 1 until a sleep ends, then 0 (woken), -110 or -4."
+-- The last answers by number: "The last answer is 1 until a sleep ends, then 0 (woken), -110 or -4."
 pub fresh-last : (words : List ℕ) (t : ℕ) → lastNumber (threadOf (start words .state) t .last) ≡ pos 1
 unfolding fresh
 fresh-last words t = ap (λ (r : Thread). lastNumber (r .last)) (getD-replicated threads t _)

@@ -20,11 +20,12 @@ use Rattle.rules.specs.declared.answer.Errno.{Errno}
 use Rattle.rules.specs.declared.answer.Answer.the-variants.{Asleep, Count, Refused}
 use Rattle.tables.specs.Sizes.{threads, bytesPerProcess, memoryWords}
 use Rattle.tables.specs.Tables.{World, threadNumber, processOf, wordAt, ended, threadOf, arrivals, sleepsAt, queue, expired, expiredSleepers, tablesOk, withState, fallAsleep}
-use Rattle.rules.specs.Answers.{asleepNumber, outcome}
+use Rattle.rules.specs.Answers.{asleepNumber, answerNumbers, outcome}
 use Rattle.rules.specs.Commands.{commandOf}
 use Rattle.rules.specs.WakeOp.{compares}
 use Rattle.rules.specs.Calls.{caller, secondCap, matches, candidates, released, moved, releasedSecond}
 use Rattle.rules.specs.Events.{refusals, effect, step}
+use Rattle.rules.specs.Numbers.{numbersOf}
 use Rattle.rules.specs.History.{start, final, keptFor, answersTo}
 use Rattle.rules.specs.Claims.{FirstOf, Clear, Sleeps, sleepsBy, Took, Takes, wokenCount, shiftedCount, countsMoves, NamedAlike, Fate, asleepThere, sleptThrough, Since, Alike}
 use Rattle.rules.proofs.Rows.{first-of, of-first, verdicts, step-refused, step-clear}
@@ -32,6 +33,7 @@ use Rattle.rules.specs.Cases.{twelve, further, given, shares, shareOf, u
 use Rattle.rules.proofs.Cases as Cases
 use Rattle.tables.proofs.Sound.{tables-sound, sound-tables, none-overdue}
 use Rattle.rules.proofs.Refused.{refused-row}
+use Rattle.rules.proofs.Numbers.{by-number}
 use Rattle.rules.proofs.Preserved.{step-valid, final-valid, start-valid}
 use Rattle.rules.proofs.Sleeps as Sleeps′
 use Rattle.rules.proofs.Taken as Taken
@@ -62,6 +64,10 @@ refused-exactly e w x = (
 -- "and the words, the thread records, the arrival list and the clock stay as they were"
 pub refusal-leaves-all : (e : Event) (w : World) (x : Errno) → step e w .answer ≡ Refused x → step e w .world ≡ w
 refusal-leaves-all e w x h = ap (λ o. o .world) (step-refused e w x (refused-row e w x h))
+
+-- What every event is answered, by the paper's own numbers: its tables row by row, and else "asleep", a count, or the panel's three.
+pub answers-by-number : (e : Event) (w : World) → answerNumbers (step e w .answer) ≡ numbersOf e w
+answers-by-number = by-number
 
 -- Demand 2, waits.
 
