@@ -36,7 +36,7 @@ extern "C" {
 /* What stands in the arrival list where no thread does. */
 #define VRADOMIL_NO_ENTRY 255
 
-/* The answer of a call that put its thread to sleep. No count is ever as high. */
+/* The answer of a call that put its thread to sleep. No count is ever as high (theorem count-below-asleep). */
 #define VRADOMIL_ASLEEP 2147483647
 
 /* The highest cap of a wake or requeue; it stands for "all". */
