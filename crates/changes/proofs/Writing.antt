@@ -1,21 +1,22 @@
 -- A store in a column of the tables' bytes is a change of the tables.
-use mathlib.Core.Path.{_≡_, refl, sym, ap, _∙_, subst}
-use mathlib.Core.Bool.{Bool}
-use mathlib.Core.List.{List, [], _∷_, map, flatten}
+use mathlib.Core.Path.{_≡_, refl, sym, ap, _∙_}
+use mathlib.Core.Bool.{Bool, true, false}
+use mathlib.Core.List.{List, [], _∷_, _++_, map, flatten, append-assoc}
 use Prim.Native.Nat.{ℕ, zero, suc, _+_, _*_, _≤_, _<_}
 use native.Mathlib.Omega.{arith}
-use lib.ListN.{length, getD, set}
-use lib.Seq.{sets, length-sets, set-getD}
+use native.Mathlib.Nat.{mul-le-mul-left, mul-suc}
+use lib.ListN.{length, getD, set, length-append, length-set}
+use lib.Seq.{sets, length-sets}
 use Rattle.lists.specs.Lists.{bit}
 use Rattle.lists.specs.LittleEndian.{bytes}
-use Rattle.lists.proofs.Stores.{sets-all}
+use Rattle.lists.proofs.Stores.{sets-all, sets-left, sets-right}
 use Rattle.lists.proofs.LittleEndian.{length-bytes}
 use Rattle.tables.specs.declared.State.{State}
 use Rattle.tables.specs.declared.Thread.{Thread}
 use Rattle.tables.specs.declared.LastAnswer.{LastAnswer}
 use Rattle.tables.specs.Sizes.{threads, wordBytes}
-use Rattle.tables.specs.Tables.{freshThread, threadOf, withSleep, withLast, movedTo, withClock}
-use Rattle.layout.specs.Layout.{timeBytes, column, columns, tablesBytes, lastByte, waitingByte, timedByte, clockAt, countAt, listAt, waitingAt, timedAt, lastAt, uaddrAt, bitsetAt, deadlineAt}
+use Rattle.tables.specs.Tables.{freshThread, threadOf, withSleep, withLast, movedTo, withThreads, withClock}
+use Rattle.layout.specs.Layout.{timeBytes, column, Field, threadFields, columns, tablesBytes, lastByte, clockAt, countAt, listAt, waitingAt, timedAt, lastAt, uaddrAt, bitsetAt, deadlineAt}
 use Rattle.changes.specs.Change.{Whole, atThread}
 use Rattle.layout.proofs.Columns.{length-column, column-set, column-same, before, put-column}
 use Rattle.layout.proofs.Exact.{sizes}
@@ -51,68 +52,111 @@ module _ (s : State) (w : Whole s) where
   size-of : (n : ℕ) (f : Thread → ℕ) → length (column n f (s .threads)) ≡ n * threads
   size-of n f = length-column n f (s .threads) ∙ ap (n *_) (w .records)
 
+  fields-sized : (fs : List Field) → map length (map (λ (f : Field). column (f .width) (f .number) (s .threads)) fs) ≡ map (λ (f : Field). f .width * threads) fs
+  fields-sized [] = refl
+  fields-sized (f ∷ fs) = λ i. size-of (f .width) (f .number) i ∷ fields-sized fs i
+
   pub sized : map length (columns s) ≡ sizes
-  sized =
-      λ i. timeBytes ∷ timeBytes ∷ w .entries i ∷ size-of 1 waitingByte i ∷ size-of 1 timedByte i ∷ size-of 1 (λ r. lastByte (r .last)) i
-      ∷ size-of wordBytes (λ r. r .uaddr) i ∷ size-of wordBytes (λ r. r .bitset) i ∷ size-of timeBytes (λ r. r .deadline) i ∷ []
+  sized = λ i. timeBytes ∷ timeBytes ∷ w .entries i ∷ fields-sized threadFields i
 
-  -- the record of a thread, field by field
+  -- the record of a thread: of its fields, those that are marked are stored, and the others are as they were
   module _ (i : ℕ) (low : i < threads) (r : Thread) where
-    new : (n : ℕ) (f : Thread → ℕ) → sets (column n f (s .threads)) (n * i) (bytes n (f r)) ≡ column n f (set (s .threads) i r)
-    new n f = sym (column-set n f (s .threads) i r (omega (arith, w .records)))
+    abbrev col : List Thread → Field → List ℕ
+    col rs f = column (f .width) (f .number) rs
 
-    -- one field stored is one column of the changed records
-    field : (cs : List (List ℕ)) (b : List ℕ) (j n : ℕ) (f : Thread → ℕ) (at : ℕ) → InColumns b cs → getD cs j [] ≡ column n f (s .threads)
-        → before j sizes + n * i ≡ at → n * i + n ≤ getD sizes j 0 → InColumns (sets b at (bytes n (f r))) (set cs j (column n f (set (s .threads) i r)))
-    field cs b j n f at c is place fits =
-        put b cs _ c j (n * i) at (bytes n (f r)) place (rw length-bytes fits) _ (ap (λ l. sets l (n * i) (bytes n (f r))) is ∙ new n f) refl
+    -- the stores of the marked fields, in their order
+    abbrev stores : ℕ → List Bool → List Field → List ℕ → List ℕ
+    stores at [] fs b = b
+    stores at (m ∷ ms) [] b = b
+    stores at (true ∷ ms) (f ∷ fs) b = stores (at + f .width * threads) ms fs (sets b (at + f .width * i) (bytes (f .width) (f .number r)))
+    stores at (false ∷ ms) (f ∷ fs) b = stores (at + f .width * threads) ms fs b
 
-    -- a field that the record keeps, which is not stored
-    kept : (cs : List (List ℕ)) (b : List ℕ) (j n : ℕ) (f : Thread → ℕ) → InColumns b cs → getD cs j [] ≡ column n f (s .threads)
-        → f r ≡ f (threadOf s i) → InColumns b (set cs j (column n f (set (s .threads) i r)))
-    kept cs b j n f c is same =
-        let column-is = column-same n f (s .threads) i r freshThread same ∙ sym is in
-        subst (InColumns b) (sym (set-getD cs j []) ∙ ap (set cs j) (sym column-is)) c
+    -- each field that is not marked is as it was
+    abbrev Keeps : List Bool → List Field → Type 0
+    Keeps [] [] = Unit {0}
+    Keeps [] (f ∷ fs) = (f .number r ≡ f .number (threadOf s i)) × Keeps [] fs
+    Keeps (m ∷ ms) [] = Unit {0}
+    Keeps (true ∷ ms) (f ∷ fs) = Keeps ms fs
+    Keeps (false ∷ ms) (f ∷ fs) = (f .number r ≡ f .number (threadOf s i)) × Keeps ms fs
+
+    -- a column with a store, and one without
+    new : (f : Field) → sets (col (s .threads) f) (f .width * i) (bytes (f .width) (f .number r)) ≡ col (set (s .threads) i r) f
+    new f = sym (column-set (f .width) (f .number) (s .threads) i r (omega (arith, w .records)))
+
+    same : (f : Field) → f .number r ≡ f .number (threadOf s i) → col (s .threads) f ≡ col (set (s .threads) i r) f
+    same f is = sym (column-same (f .width) (f .number) (s .threads) i r freshThread is)
+
+    all-same : (fs : List Field) → Keeps [] fs → map (col (s .threads)) fs ≡ map (col (set (s .threads) i r)) fs
+    all-same [] k = refl
+    all-same (f ∷ fs) k = λ j. same f (k .0) j ∷ all-same fs (k .1) j
+
+    longer : (f : Field) (at : ℕ) (pre : List ℕ) → length pre ≡ at → length (pre ++ col (set (s .threads) i r) f) ≡ at + f .width * threads
+    longer f at pre long =
+        length-append pre (col (set (s .threads) i r) f)
+        ∙ (λ j. long j + (length-column (f .width) (f .number) (set (s .threads) i r) ∙ ap (f .width *_) (length-set (s .threads) i r ∙ w .records)) j)
+
+    inside : (f : Field) → f .width * i + length (bytes (f .width) (f .number r)) ≤ length (col (s .threads) f)
+    inside f = rw (length-bytes (f .width) (f .number r), size-of (f .width) (f .number))
+        (omega (arith, mul-le-mul-left (f .width) low, mul-suc (f .width) i))
+
+    -- one field stored, behind what is done already
+    stored-field : (f : Field) (fs : List Field) (at : ℕ) (pre b : List ℕ) → length pre ≡ at → b ≡ pre ++ flatten (map (col (s .threads)) (f ∷ fs))
+        → sets b (at + f .width * i) (bytes (f .width) (f .number r)) ≡ (pre ++ col (set (s .threads) i r) f) ++ flatten (map (col (s .threads)) fs)
+    unfolding flatten
+    stored-field f fs at pre b long is =
+        let k = f .width * i in
+        let c = col (s .threads) f in
+        let rest = flatten (map (col (s .threads)) fs) in
+        let vs = bytes (f .width) (f .number r) in
+        ap (λ l. sets l (at + k) vs) is ∙ ap (λ n. sets (pre ++ (c ++ rest)) (n + k) vs) (sym long)
+        ∙ sets-right pre (c ++ rest) k vs ∙ ap (pre ++_) (sets-left c rest k vs (inside f)) ∙ ap (λ d. pre ++ (d ++ rest)) (new f) ∙ sym (append-assoc pre (col (set (s .threads) i r) f) rest)
+
+    put-fields : (ms : List Bool) (fs : List Field) (at : ℕ) (pre b : List ℕ) → length pre ≡ at → b ≡ pre ++ flatten (map (col (s .threads)) fs) → Keeps ms fs
+        → stores at ms fs b ≡ pre ++ flatten (map (col (set (s .threads) i r)) fs)
+    unfolding flatten
+    put-fields [] [] at pre b long is k = is
+    put-fields [] (f ∷ fs) at pre b long is k = is ∙ ap (λ cs. pre ++ flatten cs) (all-same (f ∷ fs) k)
+    put-fields (m ∷ ms) [] at pre b long is k = is
+    put-fields (true ∷ ms) (f ∷ fs) at pre b long is k =
+        put-fields ms fs (at + f .width * threads) (pre ++ col (set (s .threads) i r) f) _ (longer f at pre long) (stored-field f fs at pre b long is) k
+        ∙ append-assoc pre (col (set (s .threads) i r) f) (flatten (map (col (set (s .threads) i r)) fs))
+    put-fields (false ∷ ms) (f ∷ fs) at pre b long is k =
+        put-fields ms fs (at + f .width * threads) (pre ++ col (set (s .threads) i r) f) b (longer f at pre long)
+        (is ∙ ap (λ c. pre ++ (c ++ flatten (map (col (s .threads)) fs))) (same f (k .0)) ∙ sym (append-assoc pre (col (set (s .threads) i r) f) (flatten (map (col (s .threads)) fs)))) (k .1)
+        ∙ append-assoc pre (col (set (s .threads) i r) f) (flatten (map (col (set (s .threads) i r)) fs))
+
+    put-record : (ms : List Bool) (b : List ℕ) → b ≡ tablesBytes s → Keeps ms threadFields
+        → stores waitingAt ms threadFields b ≡ tablesBytes (withThreads (set (s .threads) i r) s)
+    unfolding tablesBytes flatten
+    put-record ms b is k =
+        let pre = bytes timeBytes (s .clock) ++ (bytes timeBytes (s .count) ++ s .list) in
+        let long : length pre ≡ waitingAt = simp length-append (omega (arith, w .entries)) in
+        put-fields ms threadFields waitingAt pre b long (is ∙ regroup (flatten (map (col (s .threads)) threadFields))) k
+        ∙ sym (regroup (flatten (map (col (set (s .threads) i r)) threadFields)))
+      where
+        regroup : (l : List ℕ) → bytes timeBytes (s .clock) ++ (bytes timeBytes (s .count) ++ (s .list ++ l)) ≡ (bytes timeBytes (s .clock) ++ (bytes timeBytes (s .count) ++ s .list)) ++ l
+        regroup l = simp append-assoc
 
   -- the sleep of a thread
   pub sleep-put : (i : ℕ) → i < threads → (waiting : Bool) (a m : ℕ) (timed : Bool) (due : ℕ) (b : List ℕ) → b ≡ tablesBytes s
       → sets (sets (sets (sets (sets b (waitingAt + i) (bytes 1 (bit waiting))) (timedAt + i) (bytes 1 (bit timed))) (uaddrAt + wordBytes * i) (bytes wordBytes a)) (bitsetAt + wordBytes * i) (bytes wordBytes m)) (deadlineAt + timeBytes * i) (bytes timeBytes due)
       ≡ tablesBytes (atThread i (withSleep waiting a m timed due) s)
-  unfolding tablesBytes
   sleep-put i low waiting a m timed due b is =
-      let r = withSleep waiting a m timed due (threadOf s i) in
-      let c3 = field i low r (columns s) b 3 1 waitingByte (waitingAt + i) (record { stored = is; sized = sized }) refl (omega arith) (omega arith) in
-      let c4 = field i low r _ _ 4 1 timedByte (timedAt + i) c3 refl (omega arith) (omega arith) in
-      let c5 = kept i low r _ _ 5 1 (λ q. lastByte (q .last)) c4 refl refl in
-      let c6 = field i low r _ _ 6 wordBytes (λ q. q .uaddr) (uaddrAt + wordBytes * i) c5 refl (omega arith) (omega arith) in
-      let c7 = field i low r _ _ 7 wordBytes (λ q. q .bitset) (bitsetAt + wordBytes * i) c6 refl (omega arith) (omega arith) in
-      field i low r _ _ 8 timeBytes (λ q. q .deadline) (deadlineAt + timeBytes * i) c7 refl (omega arith) (omega arith) .stored
+      let one : 1 * i ≡ i = omega arith in
+      rw one at (put-record i low (withSleep waiting a m timed due (threadOf s i)) (true ∷ true ∷ false ∷ true ∷ true ∷ true ∷ []) b is (refl, tt))
 
   -- the last answer of a thread
   pub last-put : (i : ℕ) → i < threads → (a : LastAnswer) (b : List ℕ) → b ≡ tablesBytes s
       → sets b (lastAt + i) (bytes 1 (lastByte a)) ≡ tablesBytes (atThread i (withLast a) s)
-  unfolding tablesBytes
   last-put i low a b is =
-      let r = withLast a (threadOf s i) in
-      let c3 = kept i low r (columns s) b 3 1 waitingByte (record { stored = is; sized = sized }) refl refl in
-      let c4 = kept i low r _ _ 4 1 timedByte c3 refl refl in
-      let c5 = field i low r _ _ 5 1 (λ q. lastByte (q .last)) (lastAt + i) c4 refl (omega arith) (omega arith) in
-      let c6 = kept i low r _ _ 6 wordBytes (λ q. q .uaddr) c5 refl refl in
-      let c7 = kept i low r _ _ 7 wordBytes (λ q. q .bitset) c6 refl refl in
-      kept i low r _ _ 8 timeBytes (λ q. q .deadline) c7 refl refl .stored
+      let one : 1 * i ≡ i = omega arith in
+      rw one at (put-record i low (withLast a (threadOf s i)) (false ∷ false ∷ true ∷ []) b is (refl, (refl, (refl, (refl, (refl, tt))))))
 
   -- the address of a thread
   pub address-put : (i : ℕ) → i < threads → (a : ℕ) (b : List ℕ) → b ≡ tablesBytes s
       → sets b (uaddrAt + wordBytes * i) (bytes wordBytes a) ≡ tablesBytes (atThread i (movedTo a) s)
-  unfolding tablesBytes
   address-put i low a b is =
-      let r = movedTo a (threadOf s i) in
-      let c3 = kept i low r (columns s) b 3 1 waitingByte (record { stored = is; sized = sized }) refl refl in
-      let c4 = kept i low r _ _ 4 1 timedByte c3 refl refl in
-      let c5 = kept i low r _ _ 5 1 (λ q. lastByte (q .last)) c4 refl refl in
-      let c6 = field i low r _ _ 6 wordBytes (λ q. q .uaddr) (uaddrAt + wordBytes * i) c5 refl (omega arith) (omega arith) in
-      let c7 = kept i low r _ _ 7 wordBytes (λ q. q .bitset) c6 refl refl in
-      kept i low r _ _ 8 timeBytes (λ q. q .deadline) c7 refl refl .stored
+      put-record i low (movedTo a (threadOf s i)) (false ∷ false ∷ false ∷ true ∷ []) b is (refl, (refl, (refl, (refl, (refl, tt)))))
 
   -- the list, or one entry of it, and the count
   counted : (l : List ℕ) (b : List ℕ) (n : ℕ) → InColumns b (set (columns s) 2 l)

@@ -1,7 +1,7 @@
 -- Bytes that stand for tables are the bytes of these tables, and bytes of words the bytes of these words.
 use mathlib.Core.Path.{_≡_, refl, sym, ap, _∙_}
 use mathlib.Core.Bool.{true, _&&_}
-use mathlib.Core.List.{List, [], _∷_, flatten}
+use mathlib.Core.List.{List, [], _∷_, map, flatten}
 use Prim.Native.Nat.{ℕ, zero, suc, _+_, _*_, _%_, _≤_, _<_}
 use native.Mathlib.Omega.{arith}
 use lib.ListN.{length, take, drop, getD}
@@ -16,12 +16,12 @@ use Rattle.tables.specs.declared.Thread.{Thread}
 use Rattle.tables.specs.declared.LastAnswer.{LastAnswer}
 use Rattle.tables.specs.declared.LastAnswer.the-variants.{NoneYet, Woken, TimedOut, Interrupted}
 use Rattle.tables.specs.Sizes.{threads, wordBytes}
-use Rattle.layout.specs.Layout.{timeBytes, column, columns, threadAt, stateAt, tablesBytes, tablesSize, lastByte, maxLast, lastOf, waitingByte, timedByte, flagsOk, clockAt, countAt, listAt, waitingAt, timedAt, lastAt, uaddrAt, bitsetAt, deadlineAt, wordsBytes, wordsOf}
+use Rattle.layout.specs.Layout.{timeBytes, column, Field, threadFields, columns, threadAt, stateAt, tablesBytes, tablesSize, lastByte, maxLast, lastOf, waitingByte, timedByte, flagsOk, clockAt, countAt, listAt, waitingAt, timedAt, lastAt, uaddrAt, bitsetAt, deadlineAt, wordsBytes, wordsOf}
 use Rattle.layout.proofs.Columns.{exact, column-tabulate, cuts, flatten-cuts}
 
 -- the sizes of the columns
 abbrev pub sizes : List ℕ
-sizes = timeBytes ∷ timeBytes ∷ threads ∷ threads ∷ threads ∷ threads ∷ wordBytes * threads ∷ wordBytes * threads ∷ timeBytes * threads ∷ []
+sizes = timeBytes ∷ timeBytes ∷ threads ∷ map (λ (f : Field). f .width * threads) threadFields
 
 -- one byte at a place
 one-byte : (b : List ℕ) (k v : ℕ) → k < length b → v ≡ getD b k 0 → v < 256 → bytes 1 v ≡ take 1 (drop k b)

@@ -1,6 +1,6 @@
 -- The tables and the words as bytes: docs/TABLES.md as definitions. Numbers are little-endian.
 use mathlib.Core.Bool.{Bool, cond, _&&_}
-use mathlib.Core.List.{List, [], _∷_, _++_, flatten}
+use mathlib.Core.List.{List, [], _∷_, _++_, map, flatten}
 use Prim.Native.Nat.{ℕ, _+_, _*_}
 use lib.ListN.{length, take, drop, getD}
 use lib.Dec.{eqb, leb}
@@ -39,19 +39,31 @@ waitingByte r = bit (r .waiting)
 abbrev pub timedByte : Thread → ℕ
 timedByte r = bit (r .timed)
 
+-- A field of the records as bytes: how many, and the number that they hold.
+pub record Field : Type 0 where
+  pub width : ℕ
+  pub number : Thread → ℕ
+
+abbrev field : ℕ → (Thread → ℕ) → Field
+field w f = record { width = w; number = f }
+
+abbrev pub threadFields : List Field
+threadFields =
+    field 1 waitingByte
+    ∷ field 1 timedByte
+    ∷ field 1 (λ r. lastByte (r .last))
+    ∷ field wordBytes (λ r. r .uaddr)
+    ∷ field wordBytes (λ r. r .bitset)
+    ∷ field timeBytes (λ r. r .deadline)
+    ∷ []
+
 -- the tables in columns: clock, count, list, then a column for each field of the records
 abbrev pub columns : State → List (List ℕ)
 columns s =
     bytes timeBytes (s .clock)
     ∷ bytes timeBytes (s .count)
     ∷ s .list
-    ∷ column 1 waitingByte (s .threads)
-    ∷ column 1 timedByte (s .threads)
-    ∷ column 1 (λ r. lastByte (r .last)) (s .threads)
-    ∷ column wordBytes (λ r. r .uaddr) (s .threads)
-    ∷ column wordBytes (λ r. r .bitset) (s .threads)
-    ∷ column timeBytes (λ r. r .deadline) (s .threads)
-    ∷ []
+    ∷ map (λ (f : Field). column (f .width) (f .number) (s .threads)) threadFields
 
 -- the bytes of tables
 unfoldable pub tablesBytes : State → List ℕ
