@@ -8,10 +8,9 @@ use lib.Dec.{eqb}
 use Rattle.lists.proofs.Tests.{cases, never}
 use Rattle.lists.proofs.Filter.{filter-append}
 use Rattle.rules.specs.declared.event.Event.{Event}
-use Rattle.rules.specs.declared.event.Event.the-variants.{Call as CallEvent, Store, Clock, Interrupt, Query}
 use Rattle.tables.specs.Tables.{World}
 use Rattle.rules.specs.Events.{step}
-use Rattle.rules.specs.History.{final, answers, isClock, named, isKept, belongs, keptFor, entriesOf, answersTo}
+use Rattle.rules.specs.History.{final, answers, Named, process, nobody, isProcess, namesNobody, isClock, named, isKept, belongs, keptFor, entriesOf, answersTo}
 
 pub final-append : (g h : List Event) (w : World) → final (g ++ h) w ≡ final h (final g w)
 final-append [] h w = refl
@@ -40,13 +39,13 @@ pub answers-in-order : (p : ℕ) (g : List Event) (e : Event) (w : World)
 answers-in-order p g e w =
     rw (answers-append g (e ∷ []) w) (entries-last p g e (answers g w) (step e (final g w) .answer) (length-answers g w))
 
+kept-named : (p : ℕ) (o : Named) → isKept p o ≡ (isProcess p o || namesNobody o)
+kept-named p (process q) = sym (or-false (eqb q p))
+kept-named p nobody = refl
+
 -- kept is what is the process's own, and the clock's
 pub kept-is : (p : ℕ) (e : Event) → isKept p (named e) ≡ (belongs p e || isClock e)
-kept-is p (CallEvent c) = sym (or-false (eqb (c .process) p))
-kept-is p (Store q a v) = sym (or-false (eqb q p))
-kept-is p (Clock now) = refl
-kept-is p (Interrupt q i) = sym (or-false (eqb q p))
-kept-is p (Query q) = sym (or-false (eqb q p))
+kept-is p e = kept-named p (named e)
 
 pub kept-last : (p : ℕ) (g : List Event) (e : Event) → keptFor p (g ++ e ∷ []) ≡ keptFor p g ++ cond (belongs p e || isClock e) (e ∷ []) []
 kept-last p g e = filter-append (λ d. isKept p (named d)) g (e ∷ []) ∙ ap (λ b. keptFor p g ++ cond b (e ∷ []) []) (kept-is p e)

@@ -24,13 +24,6 @@ abbrev pub answers : List Event → World → List Answer
 answers [] w = []
 answers (e ∷ es) w = step e w .answer ∷ answers es (step e w .world)
 
-abbrev pub isClock : Event → Bool
-isClock (Call c) = false
-isClock (Store p a v) = false
-isClock (Clock now) = true
-isClock (Interrupt p i) = false
-isClock (Query p) = false
-
 -- Whose event it is: the process that it names, if any.
 pub data Named : Type 0 where
   process : ℕ → Named
@@ -43,6 +36,14 @@ named (Store p a v) = process p
 named (Clock now) = nobody
 named (Interrupt p i) = process p
 named (Query p) = process p
+
+-- a clock event is the one that names nobody
+abbrev pub namesNobody : Named → Bool
+namesNobody (process q) = false
+namesNobody nobody = true
+
+abbrev pub isClock : Event → Bool
+isClock e = namesNobody (named e)
 
 abbrev pub isProcess : ℕ → Named → Bool
 isProcess p (process q) = eqb q p
