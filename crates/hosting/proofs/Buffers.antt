@@ -32,12 +32,12 @@ use Rattle.layout.proofs.Reading.{clock-read, thread-read}
 use Rattle.layout.proofs.Exact.{words-exact}
 use Rattle.layout.proofs.Checks.{wrong-size, held}
 use Rattle.changes.specs.Change.{FitsThread, Fits}
-use Rattle.vradomil.specs.Host.{seen, hostNumber, packed, Shows, BuffersJudged}
+use Rattle.vradomil.specs.Host.{seen, hostNumber, packed, BuffersJudged}
 use Rattle.vradomil.proofs.Memory.{words-length, word-fits}
 use Rattle.vradomil.proofs.FirstRows.{refused-memory, refused-tables}
 use Rattle.vradomil.proofs.Steps.{event-refused}
-use Rattle.hosting.specs.Hosts.{Hosted, called, stored, clocked, interrupted, queried, HostRuns, over, next}
-use Rattle.hosting.proofs.Hosting.{Stand, seen-is, stepped, asked, number-is, refused-stays}
+use Rattle.hosting.specs.Hosts.{Hosted, HostRuns, over, next}
+use Rattle.hosting.proofs.Hosting.{Stand, seen-is, stepped, asked, refused-stays}
 
 -- numbers of some bytes fit that many
 module _ (b : List ℕ) (size : length b ≡ tablesSize) (low : Bytes b) where
@@ -99,19 +99,19 @@ module _ (e : Event) {b m : List ℕ} (u : Unfit b m) (some : isQuery e ≡ fals
   refused-step = step-refused e (seen b m) (u .errno) (event-refused e b m (Refuse (u .errno)) (u .judged) some (u .errno) refl)
 
   pub refused-number : {b1 m1 : List ℕ} {r : ℤ} → Hosted e b m r b1 m1 → r ≡ hostNumber (Refused (u .errno))
-  refused-number h = number-is h ∙ ap (λ (o : Outcome). hostNumber (o .answer)) refused-step
+  refused-number h = h .number ∙ ap (λ (o : Outcome). hostNumber (o .answer)) refused-step
 
   refused : {b1 m1 : List ℕ} {r : ℤ} → Hosted e b m r b1 m1 → Same e b m b1 m1
   refused h =
       let stays = refused-stays h (ap (λ (o : Outcome). isRefused (o .answer)) refused-step) in
       record { tables = stays .0; words = stays .1; world = ap (λ (o : Outcome). o .world) refused-step }
 
-same : {e : Event} {b m b1 m1 : List ℕ} {r : ℤ} → Unfit b m → Hosted e b m r b1 m1 → Same e b m b1 m1
-same {e} u (called h) = refused e u refl (called h)
-same {e} u (stored h) = refused e u refl (stored h)
-same {e} u (clocked h) = refused e u refl (clocked h)
-same {e} u (interrupted h) = refused e u refl (interrupted h)
-same u (queried {p} {n} {b} {m} h) = record { tables = refl; words = refl; world = asked p (seen b m) }
+same : (e : Event) {b m b1 m1 : List ℕ} {r : ℤ} → Unfit b m → Hosted e b m r b1 m1 → Same e b m b1 m1
+same (CallEvent c) u h = refused (CallEvent c) u refl h
+same (Store p a v) u h = refused (Store p a v) u refl h
+same (Clock now) u h = refused (Clock now) u refl h
+same (Interrupt p i) u h = refused (Interrupt p i) u refl h
+same (Query p) {b} {m} u h = record { tables = h .tables; words = h .words; world = asked p (seen b m) }
 
 -- an event that is no panel query
 not-query : (e : Event) → ((p : ℕ) → e ≡ Query p → ⊥) → isQuery e ≡ false
@@ -129,9 +129,9 @@ module _ {e : Event} {b m b1 m1 : List ℕ} {r : ℤ} (h : Hosted e b m r b1 m1)
   pub wrong-tables : length m ≡ memorySize → (length b ≡ tablesSize → ⊥) → r ≡ hostNumber (Refused EBADF)
   wrong-tables size other = refused-number e (record { errno = EBADF; judged = refused-tables b m size (wrong-size b other) }) (not-query e some) h
 
-pub wrong-panel : (p n : ℕ) (b : List ℕ) → Shows p b n → (length b ≡ tablesSize → ⊥) → n ≡ packed (panelOf 0)
+pub wrong-panel : (p : ℕ) (b : List ℕ) → (length b ≡ tablesSize → ⊥) → packed (panel p (tablesAt b)) ≡ packed (panelOf 0)
 unfolding panel
-wrong-panel p n b h other = h .number ∙ ap (λ x. packed (panelOf (cond (noProcess p || not x) 0 (waitingSet p (tablesAt b))))) (wrong-size b other)
+wrong-panel p b other = ap (λ x. packed (panelOf (cond (noProcess p || not x) 0 (waitingSet p (tablesAt b))))) (wrong-size b other)
     ∙ cases (noProcess p) (λ e. rw e) (λ e. rw e)
 
 -- one event: the bytes that it leaves stand for what the rules leave
@@ -140,8 +140,8 @@ after {e} {b} {m} {b1} {m1} (inl s) h =
     let stand = stepped b m s h in
     let is = seen-is b1 m1 (step e (seen b m) .world) stand in
     (is, inl (subst (Stand b1 m1) (sym is) stand))
-after (inr u) h =
-    let k = same u h in
+after {e} (inr u) h =
+    let k = same e u h in
     ((λ j. seen (k .tables j) (k .words j)) ∙ sym (k .world), inr (subst₂ Unfit (sym (k .tables)) (sym (k .words)) u))
 
 -- a whole history
@@ -152,4 +152,4 @@ ran (next {es = es} h run) l =
     let one = after l h in
     let rest = ran run (one .1) in
     let numbers = rest .0 ∙ ap (λ w. map hostNumber (answers es w)) (one .0) in
-    (λ j. number-is h j ∷ numbers j, rest .1 ∙ ap (final es) (one .0))
+    (λ j. h .number j ∷ numbers j, rest .1 ∙ ap (final es) (one .0))

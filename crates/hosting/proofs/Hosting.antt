@@ -1,12 +1,12 @@
 -- Bytes that stand for a world: what each entry point leaves stands for what the rules leave.
-use mathlib.Core.Path.{_≡_, refl, sym, ap, subst, _∙_}
+use mathlib.Core.Path.{_≡_, refl, sym, ap, _∙_}
 use mathlib.Core.Bool.{Bool, true, false}
 use mathlib.Core.List.{List, [], _∷_, map}
 use Prim.Native.Nat.{ℕ}
 use lib.IntN.{ℤ, pos, negsuc}
 use Rattle.lists.proofs.Tests.{cases, clash}
 use Rattle.rules.specs.declared.event.Event.{Event}
-use Rattle.rules.specs.declared.event.Event.the-variants.{Store, Clock, Interrupt, Query}
+use Rattle.rules.specs.declared.event.Event.the-variants.{Call as CallEvent, Store, Clock, Interrupt, Query}
 use Rattle.rules.specs.declared.answer.Answer.{Answer}
 use Rattle.rules.specs.declared.answer.Answer.the-variants.{Asleep, Count, Refused, Waiting}
 use Rattle.tables.specs.Tables.{World, writeWord}
@@ -22,44 +22,40 @@ use Rattle.layout.specs.Layout.{tablesBytes, wordsBytes, wordsAt}
 use Rattle.changes.proofs.Faithful.{tables-back}
 use Rattle.vradomil.specs.Host.{seen, tablesLeft, wordsLeft, hostNumber, EventFits}
 use Rattle.vradomil.proofs.Theorems.{words-stand}
-use Rattle.hosting.specs.Hosts.{Hosted, called, stored, clocked, interrupted, queried}
+use Rattle.hosting.specs.Hosts.{Hosted, touchesTables, touchesWords}
 use Rattle.hosting.proofs.Fitting.{FitsWorld, step-fits}
 
 -- what an event does not touch
-store-state : (p a v : ℕ) (w : World) → step (Store p a v) w .world .state ≡ w .state
+state-kept : (e : Event) (w : World) → touchesTables e ≡ false → step e w .world .state ≡ w .state
 unfolding effect writeWord
-store-state p a v w = step-keeps (λ u. u .state ≡ w .state) (Store p a v) w refl (λ h. refl)
+state-kept (CallEvent c) w h = clash true refl h
+state-kept (Store p a v) w h = step-keeps (λ u. u .state ≡ w .state) (Store p a v) w refl (λ h. refl)
+state-kept (Clock now) w h = clash true refl h
+state-kept (Interrupt p i) w h = clash true refl h
+state-kept (Query p) w h = step-keeps (λ u. u .state ≡ w .state) (Query p) w refl (λ h. refl)
 
-clock-words : (now : ℕ) (w : World) → step (Clock now) w .world .words ≡ w .words
+words-kept : (e : Event) (w : World) → touchesWords e ≡ false → step e w .world .words ≡ w .words
 unfolding effect clockEffect
-clock-words now w = step-keeps (λ u. u .words ≡ w .words) (Clock now) w refl (λ h. refl)
-
-ended-words : (p i : ℕ) (w : World) → step (Interrupt p i) w .world .words ≡ w .words
-unfolding effect
-ended-words p i w = step-keeps (λ u. u .words ≡ w .words) (Interrupt p i) w refl (λ h. interrupt-words _ w)
+words-kept (CallEvent c) w h = clash true refl h
+words-kept (Store p a v) w h = clash true refl h
+words-kept (Clock now) w h = step-keeps (λ u. u .words ≡ w .words) (Clock now) w refl (λ h. refl)
+words-kept (Interrupt p i) w h = step-keeps (λ u. u .words ≡ w .words) (Interrupt p i) w refl (λ h. interrupt-words _ w)
+words-kept (Query p) w h = step-keeps (λ u. u .words ≡ w .words) (Query p) w refl (λ h. refl)
 
 pub asked : (p : ℕ) (w : World) → step (Query p) w .world ≡ w
 unfolding step refusals effect
 asked p w = refl
 
-shown : (p : ℕ) (w : World) → step (Query p) w .answer ≡ Waiting (panel p (w .state))
+pub shown : (p : ℕ) (w : World) → step (Query p) w .answer ≡ Waiting (panel p (w .state))
 unfolding step refusals effect
 shown p w = refl
 
 -- On any bytes: the number is the answer's, and a refusal leaves every byte.
-pub number-is : {e : Event} {b m b1 m1 : List ℕ} {r : ℤ} → Hosted e b m r b1 m1 → r ≡ hostNumber (step e (seen b m) .answer)
-number-is (called h) = h .number
-number-is (stored h) = h .number
-number-is (clocked h) = h .number
-number-is (interrupted h) = h .number
-number-is (queried {p} {n} {b} {m} h) = ap pos (h .number) ∙ ap hostNumber (sym (shown p (seen b m)))
-
 pub refused-stays : {e : Event} {b m b1 m1 : List ℕ} {r : ℤ} → Hosted e b m r b1 m1 → isRefused (step e (seen b m) .answer) ≡ true → (b1 ≡ b) × (m1 ≡ m)
-refused-stays (called h) is = (h .tables ∙ rw is, h .words ∙ rw is)
-refused-stays (stored h) is = (refl, h .bytes ∙ rw is)
-refused-stays (clocked h) is = (h .bytes ∙ rw is, refl)
-refused-stays (interrupted h) is = (h .bytes ∙ rw is, refl)
-refused-stays (queried h) is = (refl, refl)
+refused-stays {e} h is = (
+  h .tables ∙ cases (touchesTables e) (λ k. rw (k, is)) (λ k. rw k),
+  h .words ∙ cases (touchesWords e) (λ k. rw (k, is)) (λ k. rw k),
+)
 
 -- only a refusal is below 0
 abbrev below-zero : ℤ → Bool
@@ -107,11 +103,13 @@ module _ (b m : List ℕ) (s : Stand b m (seen b m)) where
   left e f tables words = record { tables = tables; words = words; valid = step-valid e (seen b m) (s .valid); fits = step-fits e (seen b m) f (s .fits) }
 
   pub stepped : {e : Event} {b1 m1 : List ℕ} {r : ℤ} → Hosted e b m r b1 m1 → Stand b1 m1 (step e (seen b m) .world)
-  stepped {e} (called h) = left e (h .fits) (h .tables ∙ left-tables e) (h .words ∙ left-words e)
-  stepped {e} (stored {p} {a} {v} h) = left e (h .fits) (s .tables ∙ ap tablesBytes (sym (store-state p a v (seen b m)))) (h .bytes ∙ left-words e)
-  stepped {e} (clocked {now} h) = left e (h .fits) (h .bytes ∙ left-tables e) (s .words ∙ ap wordsBytes (sym (clock-words now (seen b m))))
-  stepped {e} (interrupted {p} {i} h) = left e (h .fits) (h .bytes ∙ left-tables e) (s .words ∙ ap wordsBytes (sym (ended-words p i (seen b m))))
-  stepped (queried {p} h) = subst (Stand b m) (sym (asked p (seen b m))) s
+  stepped {e} h = left e (h .fits)
+      (h .tables ∙ cases (touchesTables e)
+      (λ k. rw k (left-tables e))
+      (λ k. rw k (s .tables ∙ ap tablesBytes (sym (state-kept e (seen b m) k)))))
+      (h .words ∙ cases (touchesWords e)
+      (λ k. rw k (left-words e))
+      (λ k. rw k (s .words ∙ ap wordsBytes (sym (words-kept e (seen b m) k)))))
 
 -- the numbers of the process's events are those of its answers
 pub entries-map : {A B : Type 0} (f : A → B) (p : ℕ) (h : List Event) (l : List A) → entriesOf p h (map f l) ≡ map f (entriesOf p h l)

@@ -1,13 +1,11 @@
 -- A history can be run exactly if its events fit, and in one way only.
-use mathlib.Core.Path.{_≡_, refl, sym, ap, subst₂}
+use mathlib.Core.Path.{_≡_, refl, sym, subst₂, _∙_}
 use mathlib.Core.List.{List, [], _∷_}
 use Prim.Native.Nat.{ℕ}
-use lib.IntN.{ℤ, pos}
+use lib.IntN.{ℤ}
 use Rattle.rules.specs.declared.event.Event.{Event}
-use Rattle.rules.specs.declared.event.Event.the-variants.{Call as CallEvent, Store, Clock, Interrupt, Query}
 use Rattle.vradomil.specs.Host.{EventFits}
-use Rattle.vradomil.proofs.Theorems.{call-fixed, words-fixed, tables-fixed, query-fixed}
-use Rattle.hosting.specs.Hosts.{Hosted, called, stored, clocked, interrupted, queried, HostRuns, over, next, HistoryFits}
+use Rattle.hosting.specs.Hosts.{Hosted, HostRuns, over, next, HistoryFits}
 
 -- one event
 pub record Passes (e : Event) (b m : List ℕ) : Type 0 where
@@ -17,25 +15,10 @@ pub record Passes (e : Event) (b m : List ℕ) : Type 0 where
   pub hosted : Hosted e b m number tables words
 
 pub passes : (e : Event) (b m : List ℕ) → EventFits e → Passes e b m
-passes (CallEvent c) b m f = record { number = _; tables = _; words = _; hosted = called (record { number = refl; tables = refl; words = refl; fits = f }) }
-passes (Store p a v) b m f = record { number = _; tables = _; words = _; hosted = stored (record { number = refl; bytes = refl; fits = f }) }
-passes (Clock now) b m f = record { number = _; tables = _; words = _; hosted = clocked (record { number = refl; bytes = refl; fits = f }) }
-passes (Interrupt p i) b m f = record { number = _; tables = _; words = _; hosted = interrupted (record { number = refl; bytes = refl; fits = f }) }
-passes (Query p) b m f = record { number = _; tables = _; words = _; hosted = queried (record { number = refl; fits = f }) }
-
-fits : {e : Event} {b m b1 m1 : List ℕ} {r : ℤ} → Hosted e b m r b1 m1 → EventFits e
-fits (called h) = h .fits
-fits (stored h) = h .fits
-fits (clocked h) = h .fits
-fits (interrupted h) = h .fits
-fits (queried h) = h .fits
+passes e b m f = record { number = _; tables = _; words = _; hosted = record { number = refl; tables = refl; words = refl; fits = f } }
 
 one-way : {e : Event} {b m b1 m1 b2 m2 : List ℕ} {r s : ℤ} → Hosted e b m r b1 m1 → Hosted e b m s b2 m2 → (r ≡ s) × (b1 ≡ b2) × (m1 ≡ m2)
-one-way (called f) (called g) = call-fixed f g
-one-way (stored f) (stored g) = let k = words-fixed f g in (k .0, refl, k .1)
-one-way (clocked f) (clocked g) = let k = tables-fixed f g in (k .0, k .1, refl)
-one-way (interrupted f) (interrupted g) = let k = tables-fixed f g in (k .0, k .1, refl)
-one-way (queried f) (queried g) = (ap pos (query-fixed f g), refl, refl)
+one-way f g = (f .number ∙ sym (g .number), f .tables ∙ sym (g .tables), f .words ∙ sym (g .words))
 
 -- a history
 pub runs : (h : List Event) (b m : List ℕ) → HistoryFits h → (rs : List ℤ) × (b′ : List ℕ) × (m′ : List ℕ) × HostRuns h b m rs b′ m′
@@ -47,7 +30,7 @@ runs (e ∷ es) b m f =
 
 pub all-fit : {h : List Event} {b m b′ m′ : List ℕ} {rs : List ℤ} → HostRuns h b m rs b′ m′ → HistoryFits h
 all-fit over = tt
-all-fit (next h run) = (fits h, all-fit run)
+all-fit (next h run) = (h .fits, all-fit run)
 
 pub runs-one-way : {h : List Event} {b m b1 m1 b2 m2 : List ℕ} {rs ss : List ℤ} → HostRuns h b m rs b1 m1 → HostRuns h b m ss b2 m2
     → (rs ≡ ss) × (b1 ≡ b2) × (m1 ≡ m2)

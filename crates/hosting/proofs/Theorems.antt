@@ -19,9 +19,9 @@ use Rattle.lists.specs.LittleEndian.{Bytes}
 use Rattle.layout.specs.Layout.{tablesBytes, tablesSize, wordsBytes, wordsAt, memorySize}
 use Rattle.vradomil.specs.Host.{seen, hostNumber}
 use Rattle.vradomil.proofs.Memory.{words-length}
-use Rattle.hosting.specs.Hosts.{Hosted, queried, HostRuns, HistoryFits}
+use Rattle.hosting.specs.Hosts.{Hosted, HostRuns, HistoryFits}
 use Rattle.hosting.specs.Day.{day, dayNumbers}
-use Rattle.hosting.proofs.Hosting.{number-is, refused-stays, below-refused, entries-map}
+use Rattle.hosting.proofs.Hosting.{shown, refused-stays, below-refused, entries-map}
 use Rattle.hosting.proofs.Buffers.{lent, wrong-memory, wrong-tables, wrong-panel, ran}
 use Rattle.hosting.proofs.Running.{runs, all-fit, runs-one-way}
 use Rattle.hosting.proofs.Starting.{fresh-seen, fresh-low, zeros-lent, zeros-seen}
@@ -55,11 +55,11 @@ host-lengths h some = (wrong-memory h some, wrong-tables h some)
 
 pub host-query-length : {p : ℕ} {b m b′ m′ : List ℕ} {r : ℤ} → Hosted (Query p) b m r b′ m′ → (length b ≡ tablesSize → ⊥) → r ≡ pos 0x080000
 unfolding ones trailingZeros
-host-query-length (queried {p} {n} {b} h) other = ap pos (wrong-panel p n b h other)
+host-query-length {p} {b} {m} h other = h .number ∙ ap hostNumber (shown p (seen b m)) ∙ ap pos (wrong-panel p b other)
 
 -- A number below 0 says that no byte changed.
 pub host-refusal : {e : Event} {b m b′ m′ : List ℕ} {n : ℕ} → Hosted e b m (negsuc n) b′ m′ → (b′ ≡ b) × (m′ ≡ m)
-host-refusal {e} {b} {m} {n = n} h = refused-stays h (below-refused (step e (seen b m) .answer) n (number-is h))
+host-refusal {e} {b} {m} {n = n} h = refused-stays h (below-refused (step e (seen b m) .answer) n (h .number))
 
 -- The bytes that vradomil_fresh lays down stand for the fresh tables.
 pub host-fresh : (m : List ℕ) → Bytes (tablesBytes fresh) × (seen (tablesBytes fresh) m ≡ start (wordsAt m))

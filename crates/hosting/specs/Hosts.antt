@@ -1,21 +1,37 @@
 -- A host's histories: each event is handed the bytes that the one before it left, and all that is known of what it answers and leaves is the
 -- contract of its entry point.
+use mathlib.Core.Path.{_≡_}
+use mathlib.Core.Bool.{Bool, true, false, cond}
 use mathlib.Core.List.{List, [], _∷_}
 use Prim.Native.Nat.{ℕ}
-use lib.IntN.{ℤ, pos}
-use Rattle.rules.specs.declared.event.Call.{Call}
+use lib.IntN.{ℤ}
 use Rattle.rules.specs.declared.event.Event.{Event}
 use Rattle.rules.specs.declared.event.Event.the-variants.{Call as CallEvent, Store, Clock, Interrupt, Query}
-use Rattle.vradomil.specs.Host.{EventFits, Calls, ChangesWords, ChangesTables, Shows}
+use Rattle.rules.specs.Events.{step}
+use Rattle.vradomil.specs.Host.{seen, tablesLeft, wordsLeft, hostNumber, EventFits}
 
--- What one call of the library answers and leaves, as `pass` (src/lib.rt) ensures it of the code. A store is lent the tables to read, a clock event and an interrupt the words, and a panel
--- query the tables to read and no words: so these stay.
-pub data Hosted : Event → List ℕ → List ℕ → ℤ → List ℕ → List ℕ → Type 0 where
-  called : {c : Call} {b m bAfter mAfter : List ℕ} {r : ℤ} → Calls c b m r bAfter mAfter → Hosted (CallEvent c) b m r bAfter mAfter
-  stored : {p a v : ℕ} {b m mAfter : List ℕ} {r : ℤ} → ChangesWords (Store p a v) b m r mAfter → Hosted (Store p a v) b m r b mAfter
-  clocked : {now : ℕ} {b m bAfter : List ℕ} {r : ℤ} → ChangesTables (Clock now) b m r bAfter → Hosted (Clock now) b m r bAfter m
-  interrupted : {p i : ℕ} {b m bAfter : List ℕ} {r : ℤ} → ChangesTables (Interrupt p i) b m r bAfter → Hosted (Interrupt p i) b m r bAfter m
-  queried : {p n : ℕ} {b m : List ℕ} → Shows p b n → Hosted (Query p) b m (pos n) b m
+-- which buffers the entry point of an event may write
+abbrev pub touchesTables : Event → Bool
+touchesTables (CallEvent c) = true
+touchesTables (Store p a v) = false
+touchesTables (Clock now) = true
+touchesTables (Interrupt p i) = true
+touchesTables (Query p) = false
+
+abbrev pub touchesWords : Event → Bool
+touchesWords (CallEvent c) = true
+touchesWords (Store p a v) = true
+touchesWords (Clock now) = false
+touchesWords (Interrupt p i) = false
+touchesWords (Query p) = false
+
+-- What one call of the library answers and leaves, as `pass` (src/lib.rt) ensures it of the code. A buffer that it is lent to read, or not
+-- lent, stays.
+pub record Hosted (e : Event) (b m : List ℕ) (r : ℤ) (b1 m1 : List ℕ) : Type 0 where
+  pub number : r ≡ hostNumber (step e (seen b m) .answer)
+  pub tables : b1 ≡ cond (touchesTables e) (tablesLeft (step e (seen b m)) b) b
+  pub words : m1 ≡ cond (touchesWords e) (wordsLeft (step e (seen b m)) m) m
+  pub fits : EventFits e
 
 -- From these bytes the history is answered so, event by event, and leaves these bytes.
 pub data HostRuns : List Event → List ℕ → List ℕ → List ℤ → List ℕ → List ℕ → Type 0 where
