@@ -1,4 +1,5 @@
--- Laws that fix the words in which the theorems speak: each says, of a definition in specs/, what only the right one meets.
+-- Laws that fix the words in which the theorems speak: each says, of a definition in specs/, what only the right one meets. Those that are
+-- proved by refl only read a definition out, so that a change of it shows; they say nothing more of the kernel.
 use mathlib.Core.Path.{_≡_, refl, ap, _∙_}
 use mathlib.Core.Bool.{true, false, cond, _||_}
 use mathlib.Core.List.{List, [], _∷_, _++_, map}
