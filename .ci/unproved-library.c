@@ -46,6 +46,18 @@ int32_t vradomil_call(uint8_t *tables, size_t tables_len, uint8_t *words, size_t
     return f(&t, &w, process, index, op, uaddr, val, flag, timeout, uaddr2, val3);
 }
 
+int32_t vradomil_call_report(uint8_t *tables, size_t tables_len, uint8_t *words, size_t words_len, uint8_t process, uint8_t index,
+                             uint32_t op, uint32_t uaddr, uint32_t val, uint8_t flag, uint64_t timeout, uint32_t uaddr2, uint32_t val3,
+                             uint8_t *report, size_t report_len)
+{
+    static int32_t (*f)(struct slice *, struct slice *, uint8_t, uint8_t, uint32_t, uint32_t, uint32_t, uint8_t, uint64_t, uint32_t,
+                        uint32_t, struct slice *);
+    if (!f)
+        f = find("vradomil::report::vradomil_call_report");
+    struct slice t = {tables, tables_len}, w = {words, words_len}, r = {report, report_len};
+    return f(&t, &w, process, index, op, uaddr, val, flag, timeout, uaddr2, val3, &r);
+}
+
 int32_t vradomil_store(const uint8_t *tables, size_t tables_len, uint8_t *words, size_t words_len, uint8_t process,
                        uint32_t address, uint32_t value)
 {
@@ -54,6 +66,16 @@ int32_t vradomil_store(const uint8_t *tables, size_t tables_len, uint8_t *words,
         f = find("vradomil::event::vradomil_store");
     struct slice t = {tables, tables_len}, w = {words, words_len};
     return f(&t, &w, process, address, value);
+}
+
+int32_t vradomil_store_report(const uint8_t *tables, size_t tables_len, uint8_t *words, size_t words_len, uint8_t process,
+                              uint32_t address, uint32_t value, uint8_t *report, size_t report_len)
+{
+    static int32_t (*f)(struct slice *, struct slice *, uint8_t, uint32_t, uint32_t, struct slice *);
+    if (!f)
+        f = find("vradomil::report::vradomil_store_report");
+    struct slice t = {tables, tables_len}, w = {words, words_len}, r = {report, report_len};
+    return f(&t, &w, process, address, value, &r);
 }
 
 int32_t vradomil_clock(uint8_t *tables, size_t tables_len, const uint8_t *words, size_t words_len, uint64_t time)
@@ -65,6 +87,16 @@ int32_t vradomil_clock(uint8_t *tables, size_t tables_len, const uint8_t *words,
     return f(&t, &w, time);
 }
 
+int32_t vradomil_clock_report(uint8_t *tables, size_t tables_len, const uint8_t *words, size_t words_len, uint64_t time,
+                              uint8_t *report, size_t report_len)
+{
+    static int32_t (*f)(struct slice *, struct slice *, uint64_t, struct slice *);
+    if (!f)
+        f = find("vradomil::report::vradomil_clock_report");
+    struct slice t = {tables, tables_len}, w = {words, words_len}, r = {report, report_len};
+    return f(&t, &w, time, &r);
+}
+
 int32_t vradomil_interrupt(uint8_t *tables, size_t tables_len, const uint8_t *words, size_t words_len, uint8_t process,
                            uint8_t index)
 {
@@ -73,6 +105,16 @@ int32_t vradomil_interrupt(uint8_t *tables, size_t tables_len, const uint8_t *wo
         f = find("vradomil::event::vradomil_interrupt");
     struct slice t = {tables, tables_len}, w = {words, words_len};
     return f(&t, &w, process, index);
+}
+
+int32_t vradomil_interrupt_report(uint8_t *tables, size_t tables_len, const uint8_t *words, size_t words_len, uint8_t process,
+                                  uint8_t index, uint8_t *report, size_t report_len)
+{
+    static int32_t (*f)(struct slice *, struct slice *, uint8_t, uint8_t, struct slice *);
+    if (!f)
+        f = find("vradomil::report::vradomil_interrupt_report");
+    struct slice t = {tables, tables_len}, w = {words, words_len}, r = {report, report_len};
+    return f(&t, &w, process, index, &r);
 }
 
 uint32_t vradomil_query(const uint8_t *tables, size_t tables_len, uint8_t process)

@@ -1,12 +1,15 @@
 /*
- * Times the library against plain.c and tuned.c on the same events: many short batches, the three sides by turns, each batch on
- * tables that were copied into place just before, outside the time. Prints the median time of a call and the median ratios.
+ * Times the library against plain.c and tuned.c on the same events: many short batches, the sides by turns, each batch on tables
+ * that were copied into place just before, outside the time. Prints the median time of a call and the median ratios; first of the
+ * functions that answer a number alone, then of those that also write a report. With an older library beside it, that is one more
+ * side, by its numbers alone both times.
  */
 #define _GNU_SOURCE
 #include "kinds.h"
 #include "plain.h"
 #include "tuned.h"
 
+#include <stdbool.h>
 #include <stdio.h>
 #include <stdlib.h>
 #include <string.h>
@@ -17,8 +20,12 @@
  * branches on what the tables hold; with a single batch, over and over, the processor knows them all, which is kind to it.
  */
 enum { BATCH = 24, BATCHES = 40, SAMPLES = BATCHES * BATCH, ROUNDS = 2000 };
-enum { LIBRARY, PLAIN, TUNED, SIDES };
+#ifndef WITH_BEFORE
+#define WITH_BEFORE 0
+#endif
+enum { PLAIN, TUNED, LIBRARY, BEFORE, SIDES = BEFORE + WITH_BEFORE };
 
+/* A side without reports has null in the second half. */
 struct kernel {
     const char *name;
     int32_t (*call)(uint8_t *, size_t, uint8_t *, size_t, uint8_t, uint8_t, uint32_t, uint32_t, uint32_t, uint8_t, uint64_t,
@@ -27,18 +34,39 @@ struct kernel {
     int32_t (*clock)(uint8_t *, size_t, const uint8_t *, size_t, uint64_t);
     int32_t (*interrupt)(uint8_t *, size_t, const uint8_t *, size_t, uint8_t, uint8_t);
     uint32_t (*query)(const uint8_t *, size_t, uint8_t);
+    int32_t (*call_report)(uint8_t *, size_t, uint8_t *, size_t, uint8_t, uint8_t, uint32_t, uint32_t, uint32_t, uint8_t,
+                           uint64_t, uint32_t, uint32_t, uint8_t *, size_t);
+    int32_t (*store_report)(const uint8_t *, size_t, uint8_t *, size_t, uint8_t, uint32_t, uint32_t, uint8_t *, size_t);
+    int32_t (*clock_report)(uint8_t *, size_t, const uint8_t *, size_t, uint64_t, uint8_t *, size_t);
+    int32_t (*interrupt_report)(uint8_t *, size_t, const uint8_t *, size_t, uint8_t, uint8_t, uint8_t *, size_t);
 };
 
+#define NUMBERS(name) name##_call, name##_store, name##_clock, name##_interrupt, name##_query
+#define REPORTS(name) name##_call_report, name##_store_report, name##_clock_report, name##_interrupt_report
+
+#if WITH_BEFORE
+/* The older library; bench/run gives its functions these names. */
+__typeof__(vradomil_call) before_vradomil_call;
+__typeof__(vradomil_store) before_vradomil_store;
+__typeof__(vradomil_clock) before_vradomil_clock;
+__typeof__(vradomil_interrupt) before_vradomil_interrupt;
+__typeof__(vradomil_query) before_vradomil_query;
+#endif
+
 static const struct kernel kernels[SIDES] = {
-    [LIBRARY] = {"library", vradomil_call, vradomil_store, vradomil_clock, vradomil_interrupt, vradomil_query},
-    [PLAIN] = {"plain", plain_call, plain_store, plain_clock, plain_interrupt, plain_query},
-    [TUNED] = {"tuned", tuned_call, tuned_store, tuned_clock, tuned_interrupt, tuned_query},
+    [PLAIN] = {"plain", NUMBERS(plain), REPORTS(plain)},
+    [TUNED] = {"tuned", NUMBERS(tuned), REPORTS(tuned)},
+    [LIBRARY] = {"library", NUMBERS(vradomil), REPORTS(vradomil)},
+#if WITH_BEFORE
+    [BEFORE] = {"before", NUMBERS(before_vradomil), NULL, NULL, NULL, NULL},
+#endif
 };
 
 /* What one side works on, and what it answered. */
 struct side {
     struct vradomil_tables tables[BATCH];
     int64_t answers[BATCH];
+    struct vradomil_report reports[BATCH];
     uint32_t words[VRADOMIL_WORDS];
 };
 
@@ -71,14 +99,40 @@ static inline int64_t apply(const struct kernel *k, struct vradomil_tables *tabl
     }
 }
 
-/* One batch on one side: nanoseconds a call. */
-static double run_batch(const struct kernel *k, struct side *s, const struct sample *first, double timer)
+static inline int64_t apply_report(const struct kernel *k, struct vradomil_tables *tables, uint8_t *w, const struct event *e,
+                                   struct vradomil_report *report)
 {
-    for (size_t i = 0; i < BATCH; i++)
+    uint8_t *t = (uint8_t *)tables, *r = (uint8_t *)report;
+    switch (e->function) {
+    case CALL:
+        return k->call_report(t, sizeof *tables, w, VRADOMIL_WORDS_BYTES, e->process, e->index, e->op, e->uaddr, e->val, e->flag,
+                              e->time, e->uaddr2, e->val3, r, sizeof *report);
+    case STORE:
+        return k->store_report(t, sizeof *tables, w, VRADOMIL_WORDS_BYTES, e->process, e->uaddr, e->val, r, sizeof *report);
+    case CLOCK:
+        return k->clock_report(t, sizeof *tables, w, VRADOMIL_WORDS_BYTES, e->time, r, sizeof *report);
+    case INTERRUPT:
+        return k->interrupt_report(t, sizeof *tables, w, VRADOMIL_WORDS_BYTES, e->process, e->index, r, sizeof *report);
+    default:
+        return k->query(t, sizeof *tables, e->process);
+    }
+}
+
+/* One batch on one side: nanoseconds a call. */
+static double run_batch(const struct kernel *k, struct side *s, const struct sample *first, bool report, double timer)
+{
+    uint8_t *words = (uint8_t *)s->words;
+    for (size_t i = 0; i < BATCH; i++) {
         s->tables[i] = first[i].tables;
+        s->reports[i].reason = STALE;
+    }
     double start = now();
-    for (size_t i = 0; i < BATCH; i++)
-        s->answers[i] = apply(k, &s->tables[i], (uint8_t *)s->words, &first[i].event);
+    if (report && k->call_report != NULL)
+        for (size_t i = 0; i < BATCH; i++)
+            s->answers[i] = apply_report(k, &s->tables[i], words, &first[i].event, &s->reports[i]);
+    else
+        for (size_t i = 0; i < BATCH; i++)
+            s->answers[i] = apply(k, &s->tables[i], words, &first[i].event);
     return (now() - start - timer) / BATCH;
 }
 
@@ -88,15 +142,18 @@ static void fail(const struct kind *kind, int side, const char *what)
     exit(1);
 }
 
-/* Each side must have answered as the library, as the kind says, and left the same bytes. */
-static void check(const struct kind *kind)
+/* Each side must have answered and reported as the library, as the kind says, and left the same bytes. */
+static void check(const struct kind *kind, bool report)
 {
     const struct side *library = &sides[LIBRARY];
     for (int side = 0; side < SIDES; side++) {
+        uint8_t reason = report && kernels[side].call_report != NULL ? kind->reason : STALE;
         for (size_t i = 0; i < BATCH; i++) {
             int64_t answer = sides[side].answers[i];
             if (answer != library->answers[i] || answer < kind->least || answer > kind->most)
                 fail(kind, side, "an answer");
+            if (sides[side].reports[i].reason != reason)
+                fail(kind, side, "a reason");
         }
         if (memcmp(sides[side].tables, library->tables, sizeof library->tables) != 0)
             fail(kind, side, "the tables");
@@ -138,60 +195,79 @@ static void prepare(int number, int sleepers)
 }
 
 /* Prints one line; gives the library's time over that of each side. */
-static void measure(int number, int sleepers, double timer, double over[SIDES])
+static void measure(int number, int sleepers, bool report, double timer, double over[SIDES])
 {
     static double times[SIDES][ROUNDS], ratios[SIDES][ROUNDS];
-    double middle[SIDES];
     prepare(number, sleepers);
     for (size_t round = 0; round < ROUNDS; round++) {
         const struct sample *first = &samples[round % batches * BATCH];
-        size_t step = 1 + round / SIDES % 2; /* so that the six orders come by turns */
+        size_t step = round / SIDES % 2 ? SIDES - 1 : 1; /* each side at each place, both ways round */
         for (size_t turn = 0; turn < SIDES; turn++) {
             size_t side = (round + turn * step) % SIDES;
-            times[side][round] = run_batch(&kernels[side], &sides[side], first, timer);
+            times[side][round] = run_batch(&kernels[side], &sides[side], first, report, timer);
         }
-        check(&kinds[number]);
+        check(&kinds[number], report);
         for (int side = 0; side < SIDES; side++)
             ratios[side][round] = times[LIBRARY][round] / times[side][round];
     }
+    printf("%-24s %8d", kinds[number].name, sleepers);
+    for (int side = 0; side < SIDES; side++)
+        printf(" %10.1f", median(times[side], ROUNDS));
     for (int side = 0; side < SIDES; side++) {
-        middle[side] = median(times[side], ROUNDS);
         over[side] = median(ratios[side], ROUNDS);
+        if (side != LIBRARY)
+            printf(" %14.2f", over[side]);
     }
-    printf("%-24s %8d %10.1f %10.1f %10.1f %14.2f %14.2f\n", kinds[number].name, sleepers, middle[PLAIN], middle[TUNED],
-           middle[LIBRARY], over[PLAIN], over[TUNED]);
+    printf("\n");
 }
 
-static void summary(int side, double *ratios, size_t n)
+static void headings(void)
 {
-    double middle = median(ratios, n);
-    printf("library/%s: median %.2f, lowest %.2f, highest %.2f", kernels[side].name, middle, ratios[0], ratios[n - 1]);
+    printf("%-24s %8s", "event", "sleepers");
+    for (int side = 0; side < SIDES; side++)
+        printf(" %7s ns", kernels[side].name);
+    for (int side = 0; side < SIDES; side++)
+        if (side != LIBRARY)
+            printf(" %*s/%s", 13 - (int)strlen(kernels[side].name), kernels[LIBRARY].name, kernels[side].name);
+    printf("\n");
+}
+
+/* All kinds and fills, and a last line over all of them. */
+static void measure_all(const char *title, bool report, double timer)
+{
+    static const int sleepers[] = {0, 1, 32, 63};
+    double over[SIDES], all[SIDES][KINDS * 4];
+    size_t n = 0;
+    headings();
+    for (int kind = 0; kind < KINDS; kind++)
+        for (size_t k = 0; k < 4; k++) {
+            if (sleepers[k] < kinds[kind].fewest)
+                continue;
+            measure(kind, sleepers[k], report, timer, over);
+            for (int side = 0; side < SIDES; side++)
+                all[side][n] = over[side];
+            n++;
+        }
+    for (int side = 0; side < SIDES; side++) {
+        double middle = median(all[side], n);
+        if (side != LIBRARY)
+            printf("%s library/%s: median %.2f, lowest %.2f, highest %.2f", side == 0 ? title : ";", kernels[side].name, middle,
+                   all[side][0], all[side][n - 1]);
+    }
+    printf("\n");
 }
 
 int main(int argc, char **argv)
 {
-    static const int sleepers[] = {0, 1, 32, 63};
-    double against_plain[KINDS * 4], against_tuned[KINDS * 4], over[SIDES], timer = timer_cost();
-    size_t n = 0;
+    double timer = timer_cost();
     if (argc > 1)
         batches = strtoul(argv[1], NULL, 10);
     if (argc > 2 || batches < 1 || batches > BATCHES) {
         fprintf(stderr, "usage: bench [BATCHES], 1 to %d\n", BATCHES);
         return 2;
     }
-    printf("%-24s %8s %10s %10s %10s %14s %14s\n", "event", "sleepers", "plain ns", "tuned ns", "library ns", "library/plain",
-           "library/tuned");
-    for (int kind = 0; kind < KINDS; kind++)
-        for (size_t k = 0; k < 4; k++) {
-            if (sleepers[k] < kinds[kind].fewest)
-                continue;
-            measure(kind, sleepers[k], timer, over);
-            against_plain[n] = over[PLAIN];
-            against_tuned[n++] = over[TUNED];
-        }
-    summary(PLAIN, against_plain, n);
-    printf("; ");
-    summary(TUNED, against_tuned, n);
+    measure_all("numbers:", false, timer);
     printf("\n");
+    measure_all("reports:", true, timer);
     return 0;
 }

@@ -191,4 +191,32 @@ static inline int32_t command(const struct call *c)
     }
 }
 
+/* Why a call was answered -22. It is asked only then, so the last reason needs no test. */
+static inline uint8_t call_reason(uint32_t op, uint32_t uaddr, uint32_t val, uint32_t cap2, uint32_t uaddr2, uint32_t val3)
+{
+    uint32_t number = op & ~(uint32_t)VRADOMIL_PRIVATE;
+    bool waits = number == VRADOMIL_WAIT || number == VRADOMIL_WAIT_BITSET;
+    bool masked = number == VRADOMIL_WAIT_BITSET || number == VRADOMIL_WAKE_BITSET;
+    bool two = number == VRADOMIL_REQUEUE || number == VRADOMIL_CMP_REQUEUE || number == VRADOMIL_WAKE_OP;
+    if (!waits && val > VRADOMIL_ALL)
+        return VRADOMIL_REASON_VAL;
+    if (two && cap2 > VRADOMIL_ALL)
+        return VRADOMIL_REASON_VAL2;
+    if (masked && val3 == 0)
+        return VRADOMIL_REASON_VAL3;
+    if (uaddr % 4 != 0)
+        return VRADOMIL_REASON_UADDR;
+    if (uaddr2 % 4 != 0)
+        return VRADOMIL_REASON_UADDR2;
+    return VRADOMIL_REASON_SAME_UADDR;
+}
+
+/* Hands an answer on, and what there is room for of its report. */
+static inline int32_t reported(int32_t answer, uint8_t reason, uint8_t *report, size_t report_len)
+{
+    if (report_len > offsetof(struct vradomil_report, reason))
+        report[offsetof(struct vradomil_report, reason)] = reason;
+    return answer;
+}
+
 #endif

@@ -2,12 +2,14 @@
 
 #include <string.h>
 
-enum { REFUSED_11, REFUSED_22, WAIT, WAKE_ONE, WAKE_ALL, WAKE_NOBODY, REQUEUE, WAKE_OP, STORED, CLOCK_NONE, CLOCK_HALF,
-       INTERRUPTED, QUERIED };
+enum { REFUSED_11, REFUSED_22, REFUSED_CAP2, REFUSED_SAME, WAIT, WAKE_ONE, WAKE_ALL, WAKE_NOBODY, REQUEUE, WAKE_OP, STORED,
+       CLOCK_NONE, CLOCK_HALF, INTERRUPTED, QUERIED };
 
 const struct kind kinds[KINDS] = {
     [REFUSED_11] = {"refused -11", 0, -11, -11},
-    [REFUSED_22] = {"refused -22", 0, -22, -22},
+    [REFUSED_22] = {"refused -22", 0, -22, -22, VRADOMIL_REASON_UADDR},
+    [REFUSED_CAP2] = {"wake_op -22, second cap", 0, -22, -22, VRADOMIL_REASON_VAL2},
+    [REFUSED_SAME] = {"cmp_requeue -22, same", 0, -22, -22, VRADOMIL_REASON_SAME_UADDR},
     [WAIT] = {"wait sleeps", 0, VRADOMIL_ASLEEP, VRADOMIL_ASLEEP},
     [WAKE_ONE] = {"wake of 1", 1, 1, 1},
     [WAKE_ALL] = {"wake of all at a word", 1, 1, 7},
@@ -18,7 +20,7 @@ const struct kind kinds[KINDS] = {
     [CLOCK_NONE] = {"clock ends none", 0, 0, 0},
     [CLOCK_HALF] = {"clock ends half", 1, 0, 63},
     [INTERRUPTED] = {"interrupt of a sleeper", 1, 1, 1},
-    [QUERIED] = {"query", 0, 0, UINT32_MAX},
+    [QUERIED] = {"query", 0, 0, UINT32_MAX, STALE},
 };
 
 /* The sleepers of the caller's process wait at the first two; nobody waits at the last. */
@@ -89,17 +91,40 @@ static struct event make_call(uint8_t caller, uint32_t op, uint32_t uaddr, uint3
     return e;
 }
 
+static struct event make_other(const struct vradomil_tables *t, int kind, uint8_t caller)
+{
+    uint8_t sleeper = t->list[t->count ? draw() % t->count : 0];
+    switch (kind) {
+    case STORED:
+        return (struct event){.function = STORE, .process = caller / 8, .uaddr = addresses[3], .val = (uint32_t)draw()};
+    case CLOCK_NONE:
+    case CLOCK_HALF:
+        return (struct event){.function = CLOCK, .time = t->clock + (kind == CLOCK_NONE ? 0 : 100)};
+    case INTERRUPTED:
+        return (struct event){.function = INTERRUPT, .process = sleeper / 8, .index = sleeper % 8};
+    default:
+        return (struct event){.function = QUERY, .process = caller / 8};
+    }
+}
+
 static struct event make_event(const struct vradomil_tables *t, int kind, uint8_t caller)
 {
     struct event e = make_call(caller, VRADOMIL_WAKE, addresses[0], 1);
-    uint8_t sleeper = t->list[t->count ? draw() % t->count : 0];
     switch (kind) {
     case REFUSED_11:
         return make_call(caller, VRADOMIL_WAIT, addresses[0], WORD_VALUE + 1);
     case REFUSED_22:
         return make_call(caller, VRADOMIL_WAIT, addresses[0] + 2, WORD_VALUE);
+    case REFUSED_CAP2:
+        e.op = VRADOMIL_WAKE_OP, e.time = VRADOMIL_ALL + UINT64_C(1);
+        return e;
+    case REFUSED_SAME:
+        e.op = VRADOMIL_CMP_REQUEUE, e.uaddr2 = e.uaddr;
+        return e;
     case WAIT:
         return make_call(caller, VRADOMIL_WAIT, addresses[0], WORD_VALUE);
+    case WAKE_ONE:
+        return e;
     case WAKE_ALL:
         return make_call(caller, VRADOMIL_WAKE, addresses[0], VRADOMIL_ALL);
     case WAKE_NOBODY:
@@ -110,17 +135,8 @@ static struct event make_event(const struct vradomil_tables *t, int kind, uint8_
     case WAKE_OP:
         e.op = VRADOMIL_WAKE_OP, e.val3 = VRADOMIL_WAKE_OP_VAL3(VRADOMIL_OP_ADD, 0, VRADOMIL_CMP_EQ, WORD_VALUE), e.time = 1;
         return e;
-    case STORED:
-        return (struct event){.function = STORE, .process = caller / 8, .uaddr = addresses[3], .val = (uint32_t)draw()};
-    case CLOCK_NONE:
-    case CLOCK_HALF:
-        return (struct event){.function = CLOCK, .time = t->clock + (kind == CLOCK_NONE ? 0 : 100)};
-    case INTERRUPTED:
-        return (struct event){.function = INTERRUPT, .process = sleeper / 8, .index = sleeper % 8};
-    case QUERIED:
-        return (struct event){.function = QUERY, .process = caller / 8};
     default:
-        return e;
+        return make_other(t, kind, caller);
     }
 }
 

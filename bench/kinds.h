@@ -21,11 +21,15 @@ struct sample {
 
 struct kind {
     const char *name;
-    int fewest;         /* it makes sense from so many sleepers on */
+    int fewest;          /* it makes sense from so many sleepers on */
     int64_t least, most; /* the answers that it must get */
+    uint8_t reason;      /* and the reason that is reported with them */
 };
 
-enum { KINDS = 13 };
+/* What stands in a report before an event. A query has no report and leaves it. */
+enum { STALE = 255 };
+
+enum { KINDS = 15 };
 extern const struct kind kinds[KINDS];
 
 /* The words that the events read hold this number. */

@@ -2,13 +2,14 @@
  * Vradomil: a futex kernel for eight fixed processes of eight threads each.
  *
  * The host lends the kernel two buffers for the length of one call: the tables (1,296 bytes) and the futex words of all processes
- * (32,768 bytes). The kernel keeps nothing of its own between calls, so a host may have several displays in one program.
+ * (32,768 bytes); to a function whose name ends in _report also a third, for the report, which the kernel only writes. The kernel
+ * keeps nothing of its own between calls, so a host may have several displays in one program.
  *
  * For every function:
  *  - A pointer points to as many bytes as the length beside it says. It is never null, also where the length is 0.
- *  - Tables and words don't overlap, and nobody else reads or writes them during the call.
+ *  - Tables, words and report don't overlap, and nobody else reads or writes them during the call.
  *  - No alignment is needed.
- *  - Every number, every table and every length is answered. A refusal is a number below 0 and changes no byte.
+ *  - Every number, every table and every length is answered. A refusal is a number below 0 and changes no byte of tables and words.
  */
 #ifndef VRADOMIL_H
 #define VRADOMIL_H
@@ -80,7 +81,7 @@ extern "C" {
 #define VRADOMIL_ESRCH (-3)       /* the process or the index is above 7 */
 #define VRADOMIL_EBUSY (-16)      /* the calling thread is asleep */
 #define VRADOMIL_ENOSYS (-38)     /* unknown command or option; also, but after -14, an undefined part of WAKE_OP's val3 */
-#define VRADOMIL_EINVAL (-22)     /* an argument that no call may have: see vradomil_call, _store and _clock */
+#define VRADOMIL_EINVAL (-22)     /* an argument that no event may have; VRADOMIL_REASON_.. says which */
 #define VRADOMIL_EFAULT (-14)     /* an address in use is 4096 or more */
 #define VRADOMIL_EAGAIN (-11)     /* the compared word holds another number */
 #define VRADOMIL_ETIMEDOUT (-110) /* the deadline of the wait is not ahead; the thread did not sleep */
@@ -88,6 +89,19 @@ extern "C" {
 
 /* The answer of an interrupted sleep. No function answers it; vradomil_last_answer does. */
 #define VRADOMIL_EINTR (-4)
+
+/*
+ * Why an event was answered -22; where several apply, the lowest. Beside every other answer the reason is 0. The names are those of
+ * futex(2)'s arguments: val2 is the second cap, which comes in the place of timeout.
+ */
+#define VRADOMIL_REASON_NONE 0
+#define VRADOMIL_REASON_VAL 1        /* the cap val is above 2147483647: WAKE, WAKE_BITSET, REQUEUE, CMP_REQUEUE, WAKE_OP */
+#define VRADOMIL_REASON_VAL2 2       /* the second cap is above 2147483647: REQUEUE, CMP_REQUEUE, WAKE_OP */
+#define VRADOMIL_REASON_VAL3 3       /* the mask val3 is 0: WAIT_BITSET, WAKE_BITSET */
+#define VRADOMIL_REASON_UADDR 4      /* uaddr, or a store's address, is not a multiple of 4 */
+#define VRADOMIL_REASON_UADDR2 5     /* uaddr2 is not a multiple of 4: REQUEUE, CMP_REQUEUE, WAKE_OP */
+#define VRADOMIL_REASON_SAME_UADDR 6 /* uaddr2 is uaddr: REQUEUE, CMP_REQUEUE */
+#define VRADOMIL_REASON_CLOCK 7      /* the time of a clock event is before the clock */
 
 /* How the answer of a thread's last ended sleep stands in the tables. */
 #define VRADOMIL_LAST_NONE 0
@@ -111,6 +125,12 @@ struct vradomil_tables {
     uint64_t deadline[VRADOMIL_THREADS];       /* on the kernel's clock */
 };
 
+/* What a report says beside the answer, laid over its bytes. Later versions may add fields, at the end only. */
+#define VRADOMIL_REPORT_BYTES 1
+struct vradomil_report {
+    uint8_t reason; /* VRADOMIL_REASON_.. */
+};
+
 #ifdef __BYTE_ORDER__
 VRADOMIL_ASSERT(__BYTE_ORDER__ == __ORDER_LITTLE_ENDIAN__, "the numbers in tables and words are little-endian");
 #endif
@@ -125,6 +145,8 @@ VRADOMIL_ASSERT(offsetof(struct vradomil_tables, uaddr) == 272, "uaddr at 272");
 VRADOMIL_ASSERT(offsetof(struct vradomil_tables, bitset) == 528, "bitset at 528");
 VRADOMIL_ASSERT(offsetof(struct vradomil_tables, deadline) == 784, "deadline at 784");
 VRADOMIL_ASSERT(4 * VRADOMIL_WORDS == VRADOMIL_WORDS_BYTES, "8,192 words of 32 bits");
+VRADOMIL_ASSERT(sizeof(struct vradomil_report) == VRADOMIL_REPORT_BYTES, "1 byte, no padding");
+VRADOMIL_ASSERT(offsetof(struct vradomil_report, reason) == 0, "reason at 0");
 
 /*
  * Lays down the fresh tables: clock 0, all threads running, no sleep ended yet, the list empty. The words may start as anything.
@@ -149,8 +171,7 @@ int32_t vradomil_fresh(uint8_t *tables, size_t tables_len);
  * then the call's value for the thread is vradomil_last_answer. Otherwise answers how many sleepers were released (CMP_REQUEUE:
  * released plus moved), or a refusal: -6, -9, -3, -16, -38, -22, -14, -38, -11 or -110, tested in this order.
  *
- * -22: val (but for waits) or the second cap is above 2147483647; val3 of a BITSET command is 0; an address in use is not a
- * multiple of 4; REQUEUE or CMP_REQUEUE has uaddr equal to uaddr2.
+ * -22 comes with one of the reasons VRADOMIL_REASON_VAL to VRADOMIL_REASON_SAME_UADDR, which vradomil_call_report tells.
  *
  * A refusal changes nothing; a wait refused with -110 leaves the last answer too.
  */
@@ -159,14 +180,14 @@ int32_t vradomil_call(uint8_t *tables, size_t tables_len, uint8_t *words, size_t
 
 /*
  * Writes value to the word at address of a process. Wakes nobody. The tables are read for -9 only.
- * Answers 0, or -6, -9, -3 (process), -22 (address not a multiple of 4) or -14, and then changes nothing.
+ * Answers 0, or -6, -9, -3 (process), -22 (VRADOMIL_REASON_UADDR) or -14, and then changes nothing.
  */
 int32_t vradomil_store(const uint8_t *tables, size_t tables_len, uint8_t *words, size_t words_len, uint8_t process,
                        uint32_t address, uint32_t value);
 
 /*
  * Sets the clock and ends every sleep whose deadline is at or before it, with last answer -110.
- * Answers how many ended, or -6, -9 or -22 (time is before the clock; equal is allowed), and then changes nothing.
+ * Answers how many ended, or -6, -9 or -22 (VRADOMIL_REASON_CLOCK; the same time again is allowed), and then changes nothing.
  * The count speaks of every process.
  */
 int32_t vradomil_clock(uint8_t *tables, size_t tables_len, const uint8_t *words, size_t words_len, uint64_t time);
@@ -177,6 +198,22 @@ int32_t vradomil_clock(uint8_t *tables, size_t tables_len, const uint8_t *words,
  */
 int32_t vradomil_interrupt(uint8_t *tables, size_t tables_len, const uint8_t *words, size_t words_len, uint8_t process,
                            uint8_t index);
+
+/*
+ * The four events once more, with a report: each does and answers what the function without _report does, and also writes as many
+ * bytes of the report as report_len has room for, none if it is 0. It writes them with every answer, so that nothing of an earlier
+ * event stays there; bytes behind the report stay as they were. Lend it a struct vradomil_report and the struct's own size: the
+ * host then goes on working, without being compiled again, with a later library whose report is longer. A query has no report.
+ */
+int32_t vradomil_call_report(uint8_t *tables, size_t tables_len, uint8_t *words, size_t words_len, uint8_t process,
+                             uint8_t index, uint32_t op, uint32_t uaddr, uint32_t val, uint8_t flag, uint64_t timeout,
+                             uint32_t uaddr2, uint32_t val3, uint8_t *report, size_t report_len);
+int32_t vradomil_store_report(const uint8_t *tables, size_t tables_len, uint8_t *words, size_t words_len, uint8_t process,
+                              uint32_t address, uint32_t value, uint8_t *report, size_t report_len);
+int32_t vradomil_clock_report(uint8_t *tables, size_t tables_len, const uint8_t *words, size_t words_len, uint64_t time,
+                              uint8_t *report, size_t report_len);
+int32_t vradomil_interrupt_report(uint8_t *tables, size_t tables_len, const uint8_t *words, size_t words_len, uint8_t process,
+                                  uint8_t index, uint8_t *report, size_t report_len);
 
 /*
  * Which threads of a process sleep. Changes nothing and is never refused.
@@ -215,6 +252,66 @@ static inline int32_t vradomil_last_answer(uint8_t last)
         return VRADOMIL_EINTR;
     default:
         return 1;
+    }
+}
+
+/* In words, what a function or vradomil_last_answer answers; 1 is taken for a count. Not for vradomil_query. */
+static inline const char *vradomil_answer_text(int32_t answer)
+{
+    switch (answer) {
+    case VRADOMIL_ASLEEP:
+        return "asleep";
+    case 0:
+        return "done";
+    case VRADOMIL_ENXIO:
+        return "words of a wrong length";
+    case VRADOMIL_EBADF:
+        return "tables of a wrong length, or broken";
+    case VRADOMIL_ESRCH:
+        return "no such process or thread";
+    case VRADOMIL_EBUSY:
+        return "the calling thread is asleep";
+    case VRADOMIL_ENOSYS:
+        return "unknown command, option or operation";
+    case VRADOMIL_EINVAL:
+        return "bad argument";
+    case VRADOMIL_EFAULT:
+        return "address outside the words";
+    case VRADOMIL_EAGAIN:
+        return "the word holds another number";
+    case VRADOMIL_ETIMEDOUT:
+        return "the deadline has passed";
+    case VRADOMIL_ENOMEM:
+        return "the arrival list is full";
+    case VRADOMIL_EINTR:
+        return "interrupted";
+    default:
+        return answer > 0 && answer <= VRADOMIL_THREADS ? "done, a count of threads" : "not an answer";
+    }
+}
+
+/* In words, the reason of a report. */
+static inline const char *vradomil_reason_text(uint8_t reason)
+{
+    switch (reason) {
+    case VRADOMIL_REASON_NONE:
+        return "no reason";
+    case VRADOMIL_REASON_VAL:
+        return "val, the first cap, is above 2147483647";
+    case VRADOMIL_REASON_VAL2:
+        return "the second cap is above 2147483647";
+    case VRADOMIL_REASON_VAL3:
+        return "val3, the mask, is 0";
+    case VRADOMIL_REASON_UADDR:
+        return "uaddr, or a store's address, is not a multiple of 4";
+    case VRADOMIL_REASON_UADDR2:
+        return "uaddr2 is not a multiple of 4";
+    case VRADOMIL_REASON_SAME_UADDR:
+        return "uaddr and uaddr2 are the same";
+    case VRADOMIL_REASON_CLOCK:
+        return "the clock went back";
+    default:
+        return "not a reason";
     }
 }
 

@@ -35,9 +35,9 @@ static uint32_t own_word(const struct host *h, uint32_t address)
     return value;
 }
 
-static int32_t one_event(struct host *h, struct flood *flood)
+static int32_t one_event(struct host *h, struct flood *flood, struct vradomil_report *report)
 {
-    uint8_t *tables = (uint8_t *)&h->tables;
+    uint8_t *tables = (uint8_t *)&h->tables, *r = (uint8_t *)report;
     uint8_t index = (uint8_t)(draw(flood) % 9); /* 8 is no thread */
     uint32_t command = op(flood), uaddr = number(flood), uaddr2 = number(flood), val3 = number(flood);
     uint32_t val = draw(flood) % 2 ? own_word(h, uaddr) : number(flood);
@@ -45,22 +45,24 @@ static int32_t one_event(struct host *h, struct flood *flood)
     uint64_t timeout = draw(flood) % 2 ? number(flood) : draw(flood);
     switch (draw(flood) % 8) {
     case 0:
-        return vradomil_store(tables, sizeof h->tables, h->words, sizeof h->words, CAMERA, uaddr, val);
+        return vradomil_store_report(tables, sizeof h->tables, h->words, sizeof h->words, CAMERA, uaddr, val, r, sizeof *report);
     case 1:
-        return vradomil_interrupt(tables, sizeof h->tables, h->words, sizeof h->words, CAMERA, index);
+        return vradomil_interrupt_report(tables, sizeof h->tables, h->words, sizeof h->words, CAMERA, index, r, sizeof *report);
     default:
-        return vradomil_call(tables, sizeof h->tables, h->words, sizeof h->words, CAMERA, index, command, uaddr, val, flag,
-                             timeout, uaddr2, val3);
+        return vradomil_call_report(tables, sizeof h->tables, h->words, sizeof h->words, CAMERA, index, command, uaddr, val, flag,
+                                    timeout, uaddr2, val3, r, sizeof *report);
     }
 }
 
 void camera_flood(struct host *h, struct flood *flood, unsigned calls)
 {
     for (unsigned k = 0; k < calls; k++) {
-        int32_t answer = one_event(h, flood);
+        struct vradomil_report report;
+        int32_t answer = one_event(h, flood, &report);
         flood->calls++;
         flood->asleep += answer == VRADOMIL_ASLEEP;
         flood->refused += answer < 0;
+        flood->reasons[report.reason]++;
         /* As after every event. Only threads of the camera can run again, and the host has no program for those. */
         if (answer > 0)
             host_collect(h);

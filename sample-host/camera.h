@@ -7,6 +7,7 @@
 struct flood {
     uint64_t seed;
     unsigned calls, asleep, refused;
+    unsigned reasons[256]; /* how many were refused for each; 0 counts all other answers */
 };
 
 void camera_flood(struct host *h, struct flood *flood, unsigned calls);

@@ -1,7 +1,6 @@
 #include "host.h"
 
 #include <stdarg.h>
-#include <stdio.h>
 #include <stdlib.h>
 #include <string.h>
 
@@ -14,18 +13,22 @@ static uint8_t *tables(struct host *h)
     return (uint8_t *)&h->tables;
 }
 
-static void stop(const char *why, int32_t answer)
+void print_answer(FILE *out, int32_t answer, struct vradomil_report report)
 {
-    fprintf(stderr, "%s (%d)\n", why, (int)answer);
-    exit(1);
+    fprintf(out, "%d, %s", (int)answer, vradomil_answer_text(answer));
+    if (report.reason != VRADOMIL_REASON_NONE)
+        fprintf(out, ": %s", vradomil_reason_text(report.reason));
+    fprintf(out, "\n");
 }
 
-/* The host never lends broken tables or a short memory: these answers say that it has overwritten its own tables. */
-static int32_t checked(int32_t answer)
+/* For events that must not be refused: a refusal says that this host, or one of its programs, is wrong. */
+static int32_t granted(const char *what, int32_t answer, struct vradomil_report report)
 {
-    if (answer == VRADOMIL_ENXIO || answer == VRADOMIL_EBADF)
-        stop("broken tables or words", answer);
-    return answer;
+    if (answer >= 0)
+        return answer;
+    fprintf(stderr, "the host's %s was refused: ", what);
+    print_answer(stderr, answer, report);
+    exit(1);
 }
 
 void say(struct host *h, const char *format, ...)
@@ -39,15 +42,17 @@ void say(struct host *h, const char *format, ...)
     size_t room = sizeof h->trace - h->traced;
     int length = snprintf(h->trace + h->traced, room, "%4u  %-8s %u  %s\n", (unsigned)h->tables.clock, names[h->running / 8],
                           h->running % 8, text);
-    if ((size_t)length >= room)
-        stop("no room for the trace", length);
+    if ((size_t)length >= room) {
+        fprintf(stderr, "no room for the trace\n");
+        exit(1);
+    }
     h->traced += (size_t)length;
 }
 
 void host_start(struct host *h)
 {
     memset(h, 0, sizeof *h);
-    checked(vradomil_fresh(tables(h), sizeof h->tables));
+    granted("start", vradomil_fresh(tables(h), sizeof h->tables), (struct vradomil_report){0});
 }
 
 /* The first turn of a thread comes here; makecontext can hand over no pointer, so the host is kept aside. */
@@ -109,13 +114,19 @@ void host_collect(struct host *h)
 
 void host_clock(struct host *h, uint64_t time)
 {
-    if (checked(vradomil_clock(tables(h), sizeof h->tables, h->words, sizeof h->words, time)) > 0)
+    struct vradomil_report report;
+    int32_t ended = vradomil_clock_report(tables(h), sizeof h->tables, h->words, sizeof h->words, time, (uint8_t *)&report,
+                                          sizeof report);
+    if (granted("clock", ended, report) > 0)
         host_collect(h);
 }
 
 void host_interrupt(struct host *h, uint8_t process, uint8_t index)
 {
-    if (checked(vradomil_interrupt(tables(h), sizeof h->tables, h->words, sizeof h->words, process, index)) > 0)
+    struct vradomil_report report;
+    int32_t ended = vradomil_interrupt_report(tables(h), sizeof h->tables, h->words, sizeof h->words, process, index,
+                                              (uint8_t *)&report, sizeof report);
+    if (granted("interrupt", ended, report) > 0)
         host_collect(h);
 }
 
@@ -129,17 +140,30 @@ uint32_t load(const struct host *h, uint32_t address)
 void store(struct host *h, uint32_t address, uint32_t value)
 {
     uint8_t process = (uint8_t)(h->running / 8);
-    checked(vradomil_store(tables(h), sizeof h->tables, h->words, sizeof h->words, process, address, value));
+    struct vradomil_report report;
+    int32_t answer = vradomil_store_report(tables(h), sizeof h->tables, h->words, sizeof h->words, process, address, value,
+                                           (uint8_t *)&report, sizeof report);
+    granted("store", answer, report);
 }
 
-/* The futex call of the running thread. It returns when the call has ended: at once, or after a sleep. */
+int32_t host_call(struct host *h, uint8_t process, uint8_t index, struct futex call, struct vradomil_report *report)
+{
+    uint64_t timeout = call.timed ? call.timeout : call.cap2;
+    return vradomil_call_report(tables(h), sizeof h->tables, h->words, sizeof h->words, process, index, call.op, call.uaddr,
+                                call.val, call.timed, timeout, call.uaddr2, call.val3, (uint8_t *)report, sizeof *report);
+}
+
+/*
+ * The futex call of the running thread. It returns when the call has ended: at once, or after a sleep. The programs here are the
+ * host's own and make no wrong calls; a host for others hands -22, -14 and -38 to the caller.
+ */
 int32_t futex(struct host *h, struct futex call)
 {
     struct thread *t = &h->threads[h->running];
-    uint8_t process = (uint8_t)(h->running / 8), index = (uint8_t)(h->running % 8);
-    uint64_t timeout = call.timed ? call.timeout : call.cap2;
-    int32_t answer = checked(vradomil_call(tables(h), sizeof h->tables, h->words, sizeof h->words, process, index, call.op,
-                                           call.uaddr, call.val, call.timed, timeout, call.uaddr2, call.val3));
+    struct vradomil_report report;
+    int32_t answer = host_call(h, (uint8_t)(h->running / 8), (uint8_t)(h->running % 8), call, &report);
+    if (answer != VRADOMIL_EAGAIN && answer != VRADOMIL_ETIMEDOUT)
+        granted("futex call", answer, report);
     if (answer == VRADOMIL_ASLEEP) {
         t->asleep = true;
         pause_turn(h);

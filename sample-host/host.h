@@ -8,6 +8,7 @@
 #include "vradomil.h"
 
 #include <stdbool.h>
+#include <stdio.h>
 #include <ucontext.h>
 
 enum { CAMERA, MAP, SECTIONS, STOP_KEY };
@@ -44,6 +45,10 @@ struct futex {
 
 /* For the main program. */
 void host_start(struct host *h);
+/* One futex call by any thread, as the library answers it. */
+int32_t host_call(struct host *h, uint8_t process, uint8_t index, struct futex call, struct vradomil_report *report);
+/* A line with an answer as number and in words, and its reason if it has one. */
+void print_answer(FILE *out, int32_t answer, struct vradomil_report report);
 void host_spawn(struct host *h, uint8_t process, uint8_t index, program_t *program);
 void host_turns(struct host *h);
 void host_clock(struct host *h, uint64_t time);

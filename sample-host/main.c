@@ -1,6 +1,10 @@
-/* Runs one scenario twice, without and with the camera's flood, and checks that no other process could tell. */
+/*
+ * Shows some refusals; then runs one scenario twice, without and with the camera's flood, and checks that no other process could
+ * tell.
+ */
 #include "camera.h"
 #include "programs.h"
+#include "refusals.h"
 
 #include <stdio.h>
 #include <string.h>
@@ -68,16 +72,27 @@ static bool counted(const struct host *h)
     return painted == ROUNDS * PAINTERS && done == ROUNDS * WORKERS;
 }
 
+static void tell_flood(const struct host *h, const struct flood *flood)
+{
+    uint32_t panel = vradomil_query((const uint8_t *)&h->tables, sizeof h->tables, CAMERA);
+    printf("the camera made %u calls: %u refused, %u put a thread to sleep, asleep at the end: %u\n", flood->calls,
+           flood->refused, flood->asleep, (unsigned)vradomil_query_count(panel));
+    printf("of the refused, those with a reason:\n");
+    for (unsigned reason = 1; reason < 256; reason++)
+        if (flood->reasons[reason] != 0)
+            printf("%6u  %s\n", flood->reasons[reason], vradomil_reason_text((uint8_t)reason));
+}
+
 int main(void)
 {
-    static struct host calm, flooded;
+    static struct host calm, flooded, other;
     struct flood flood = {.seed = 1};
+    printf("what a refusal looks like\n");
+    show_refusals(&other);
     run(&calm, NULL);
     run(&flooded, &flood);
     printf("time  thread      what\n%s", calm.trace);
-    uint32_t panel = vradomil_query((const uint8_t *)&flooded.tables, sizeof flooded.tables, CAMERA);
-    printf("the camera made %u calls: %u refused, %u put a thread to sleep, asleep at the end: %u\n", flood.calls, flood.refused,
-           flood.asleep, (unsigned)vradomil_query_count(panel));
+    tell_flood(&flooded, &flood);
     if (!counted(&calm) || !same(&calm, &flooded)) {
         printf("NOT the same; with the flood:\n%s", flooded.trace);
         return 1;

@@ -1,6 +1,7 @@
 /*
  * Feeds the library random tables, words, lengths and arguments, in heap buffers of just their length, so that valgrind sees a
- * read or write outside them. A refusal must change nothing. usage: random-bytes SEED EVENTS
+ * read or write outside them. A refusal must change nothing. Half of the events are asked for a report, in a buffer that may be too
+ * short or too long. usage: random-bytes SEED EVENTS
  */
 #include "vradomil.h"
 
@@ -71,47 +72,107 @@ static uint8_t small(void)
     return (uint8_t)(draw() % 8 ? draw() % 8 : draw());
 }
 
-static int64_t event(struct buffer t, struct buffer w)
+enum function { STORE, CLOCK, INTERRUPT, QUERY, CALL };
+
+struct event {
+    enum function function;
+    uint8_t process, index, flag;
+    uint32_t op, uaddr, val, uaddr2, val3;
+    uint64_t time;
+};
+
+static struct event make_event(void)
 {
     static const uint32_t ops[] = {0, 0, 9, 9, 1, 3, 4, 5, 10};
-    uint32_t op = draw() % 16 ? ops[draw() % 9] | (draw() % 4 ? 0 : 128) : (uint32_t)draw();
-    uint32_t uaddr = number(), uaddr2 = number(), val = draw() % 8 ? 0 : number();
-    uint64_t time = draw() % 8 ? draw() % 64 : draw();
-    uint8_t process = small(), index = small();
-    switch (draw() % 12) {
-    case 0:
-        return vradomil_store(t.bytes, t.length, w.bytes, w.length, process, uaddr, val);
-    case 1:
-        return vradomil_clock(t.bytes, t.length, w.bytes, w.length, time);
-    case 2:
-        return vradomil_interrupt(t.bytes, t.length, w.bytes, w.length, process, index);
-    case 3:
-        return vradomil_query(t.bytes, t.length, process);
+    struct event e = {.process = small(), .index = small(), .flag = draw() % 2, .uaddr = number(), .uaddr2 = number()};
+    uint64_t function = draw() % 12;
+    e.function = function < CALL ? (enum function)function : CALL;
+    e.op = draw() % 16 ? ops[draw() % 9] | (draw() % 4 ? 0 : 128) : (uint32_t)draw();
+    e.val = draw() % 8 ? 0 : number();
+    e.val3 = number();
+    e.time = draw() % 8 ? draw() % 64 : draw();
+    return e;
+}
+
+static int64_t ask(struct buffer t, struct buffer w, struct event e)
+{
+    switch (e.function) {
+    case STORE:
+        return vradomil_store(t.bytes, t.length, w.bytes, w.length, e.process, e.uaddr, e.val);
+    case CLOCK:
+        return vradomil_clock(t.bytes, t.length, w.bytes, w.length, e.time);
+    case INTERRUPT:
+        return vradomil_interrupt(t.bytes, t.length, w.bytes, w.length, e.process, e.index);
+    case QUERY:
+        return vradomil_query(t.bytes, t.length, e.process);
     default:
-        return vradomil_call(t.bytes, t.length, w.bytes, w.length, process, index, op, uaddr, val, draw() % 2, time, uaddr2,
-                             number());
+        return vradomil_call(t.bytes, t.length, w.bytes, w.length, e.process, e.index, e.op, e.uaddr, e.val, e.flag, e.time,
+                             e.uaddr2, e.val3);
     }
 }
 
-/* Events on one pair of buffers. Gives how many were refused; stops if a refusal changed a byte. */
+static int64_t ask_report(struct buffer t, struct buffer w, struct event e, struct buffer r)
+{
+    switch (e.function) {
+    case STORE:
+        return vradomil_store_report(t.bytes, t.length, w.bytes, w.length, e.process, e.uaddr, e.val, r.bytes, r.length);
+    case CLOCK:
+        return vradomil_clock_report(t.bytes, t.length, w.bytes, w.length, e.time, r.bytes, r.length);
+    case INTERRUPT:
+        return vradomil_interrupt_report(t.bytes, t.length, w.bytes, w.length, e.process, e.index, r.bytes, r.length);
+    default:
+        return vradomil_call_report(t.bytes, t.length, w.bytes, w.length, e.process, e.index, e.op, e.uaddr, e.val, e.flag, e.time,
+                                    e.uaddr2, e.val3, r.bytes, r.length);
+    }
+}
+
+static void fail(const char *what)
+{
+    printf("random-bytes: %s\n", what);
+    exit(1);
+}
+
+/* A reason stands there just where the answer is -22, whatever stood there before, and nothing behind it is touched. */
+static void check_report(struct buffer r, int64_t answer)
+{
+    size_t written = r.length < VRADOMIL_REPORT_BYTES ? r.length : VRADOMIL_REPORT_BYTES;
+    if (written != 0 && (r.bytes[0] > VRADOMIL_REASON_CLOCK || (r.bytes[0] != 0) != (answer == VRADOMIL_EINVAL)))
+        fail("a report has a wrong reason");
+    if (memcmp(r.before + written, r.bytes + written, r.length - written) != 0)
+        fail("a byte behind a report was changed");
+}
+
+static int64_t event(struct buffer t, struct buffer w, struct buffer r)
+{
+    struct event e = make_event();
+    if (e.function == QUERY || draw() % 2)
+        return ask(t, w, e);
+    for (size_t k = 0; k < r.length; k++)
+        r.before[k] = r.bytes[k] = (uint8_t)draw();
+    int64_t answer = ask_report(t, w, e, r);
+    check_report(r, answer);
+    return answer;
+}
+
+/* Events on one set of buffers. Gives how many were refused; stops if a refusal changed a byte. */
 static unsigned long try_buffers(unsigned long events)
 {
     struct buffer t = buffer(length_near(VRADOMIL_TABLES_BYTES)), w = buffer(length_near(VRADOMIL_WORDS_BYTES));
+    struct buffer r = buffer((size_t)(draw() % 2 ? VRADOMIL_REPORT_BYTES : draw() % 9));
     unsigned long refused = 0;
     make_tables(t);
     for (unsigned long k = 0; k < events; k++) {
         memcpy(t.before, t.bytes, t.length);
         memcpy(w.before, w.bytes, w.length);
-        if (event(t, w) >= 0)
+        if (event(t, w, r) >= 0)
             continue;
         refused++;
-        if (memcmp(t.before, t.bytes, t.length) != 0 || memcmp(w.before, w.bytes, w.length) != 0) {
-            printf("random-bytes: a refusal changed a byte\n");
-            exit(1);
-        }
+        if (memcmp(t.before, t.bytes, t.length) != 0 || memcmp(w.before, w.bytes, w.length) != 0)
+            fail("a refusal changed a byte");
     }
     drop(t);
     drop(w);
+    drop(r);
     return refused;
 }
 

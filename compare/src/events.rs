@@ -90,6 +90,8 @@ pub struct Mood {
     waits: u64,
     /// Of a hundred events, how many have an argument at an edge.
     edges: u64,
+    /// Of a hundred calls, how many have arguments that -22 refuses.
+    faults: u64,
     /// Of a hundred events, how many are no calls.
     others: u64,
     /// Of a hundred wakes, how many take all.
@@ -101,17 +103,18 @@ pub struct Mood {
 }
 
 const MOODS: &[Mood] = &[
-    Mood { waits: 50, edges: 10, others: 25, all: 5, processes: 8, timed: 50 },
-    Mood { waits: 60, edges: 5, others: 20, all: 10, processes: 2, timed: 40 },
+    Mood { waits: 50, edges: 10, faults: 3, others: 25, all: 5, processes: 8, timed: 50 },
+    Mood { waits: 60, edges: 5, faults: 5, others: 20, all: 10, processes: 2, timed: 40 },
     // The list fills up, to 64 in the end,
-    Mood { waits: 97, edges: 2, others: 6, all: 0, processes: 8, timed: 10 },
+    Mood { waits: 97, edges: 2, faults: 1, others: 6, all: 0, processes: 8, timed: 10 },
     // or is drained by wakes, or by the clock.
-    Mood { waits: 10, edges: 5, others: 15, all: 60, processes: 8, timed: 50 },
-    Mood { waits: 80, edges: 2, others: 40, all: 5, processes: 4, timed: 95 },
+    Mood { waits: 10, edges: 5, faults: 5, others: 15, all: 60, processes: 8, timed: 50 },
+    Mood { waits: 80, edges: 2, faults: 1, others: 40, all: 5, processes: 4, timed: 95 },
 ];
 
 /// Each argument at an edge now and then: one to three of them at once.
-pub const EDGES: Mood = Mood { waits: 40, edges: 90, others: 25, all: 10, processes: 8, timed: 60 };
+pub const EDGES: Mood =
+    Mood { waits: 40, edges: 90, faults: 25, others: 25, all: 10, processes: 8, timed: 60 };
 
 pub fn mood(rng: &mut Rng) -> Mood {
     rng.pick(MOODS)
@@ -127,6 +130,13 @@ pub fn next(rng: &mut Rng, mood: Mood, state: &State, words: &[u32]) -> Event {
     if rng.percent(mood.edges) {
         for _ in 0..1 + rng.below(3) {
             put_edge(rng, &mut event);
+        }
+    }
+    if let Event::Call(call) = &mut event {
+        if rng.percent(mood.faults) {
+            for _ in 0..1 + rng.below(3) {
+                put_fault(rng, call);
+            }
         }
     }
     event
@@ -276,6 +286,19 @@ fn put_edge(rng: &mut Rng, event: &mut Event) {
             _ => *index = rng.pick(EDGE_U8),
         },
         Event::Query { process } => *process = rng.pick(EDGE_U8),
+    }
+}
+
+/// Gives one argument a value that -22 refuses, if the command uses it.
+fn put_fault(rng: &mut Rng, call: &mut Call) {
+    let above = &[1 << 31, (1 << 31) + 1, u32::MAX];
+    match rng.below(6) {
+        0 => call.val = rng.pick(above),
+        1 => call.timeout = rng.pick(above) as u64 + (rng.below(3) << 32),
+        2 => call.val3 = 0,
+        3 => call.uaddr |= 1 + rng.below(3) as u32,
+        4 => call.uaddr2 |= 1 + rng.below(3) as u32,
+        _ => call.uaddr2 = call.uaddr,
     }
 }
 

@@ -4,6 +4,7 @@
 mod events;
 mod host;
 mod pair;
+mod reasons;
 mod room;
 mod tables;
 mod tally;
@@ -17,7 +18,7 @@ use second::rng::Rng;
 use events::Mood;
 use pair::Pair;
 use tables::BREAKS;
-use tally::Tally;
+use tally::{Form, Tally};
 
 /// Events of one stretch. Each starts anew, so that a seed and a stretch's
 /// number are enough to run it again; all words are compared at its end.
@@ -30,7 +31,7 @@ fn main() -> ExitCode {
         eprintln!("usage: compare SEED EVENTS");
         return ExitCode::from(2);
     };
-    let mut tally = Tally::default();
+    let mut tally = Tally::new();
     for number in 0..events.div_ceil(STRETCH) {
         if let Err(first) = stretch(seed, number, false, &mut tally) {
             // A word far from all that an event names is seen late. Run it
@@ -100,9 +101,30 @@ impl Run<'_> {
     }
 
     fn step(&mut self, event: &Event) -> Result<(), String> {
-        let number = self.pair.step(event)?;
-        self.tally.event(event, number);
+        let length = self.report_length(event);
+        self.pair.set_report(&mut self.rng, length);
+        let given = self.pair.step(event)?;
+        let applying = if given.number == -22 { reasons::applying(event) } else { 0 };
+        if given.reason != reasons::lowest(applying) {
+            return Err(format!("{event:?}: reason {}, not the lowest", given.reason));
+        }
+        self.tally.event(event, given.number, Form::of(length), applying);
         Ok(())
+    }
+
+    /// How many bytes an event's report is given; none: its number is all that
+    /// is asked for.
+    fn report_length(&mut self, event: &Event) -> Option<usize> {
+        if matches!(event, Event::Query { .. }) {
+            return None;
+        }
+        match self.rng.below(8) {
+            0..=2 => None,
+            3 => Some(0),
+            4..=5 => Some(1),
+            6 => Some(2),
+            _ => Some(3 + self.rng.below(30) as usize),
+        }
     }
 
     /// An event that fits these tables. Broken ones may name sleepers that

@@ -12,6 +12,13 @@ use crate::events;
 use crate::host;
 use crate::room::Room;
 
+/// The answer's number and its reason, as both sides gave them.
+#[derive(Clone, Copy)]
+pub struct Given {
+    pub number: i64,
+    pub reason: u8,
+}
+
 pub struct Pair {
     /// The second kernel's side: what the tables stand for, if anything, their
     /// bytes now and before the last event, and the words.
@@ -24,6 +31,11 @@ pub struct Pair {
     /// The library's side.
     tables: Room,
     lent: Room,
+    /// The bytes for the report of the next event, what is to stand there
+    /// after it, and whether it is asked for one.
+    report: Room,
+    due_report: Vec<u8>,
+    reports: bool,
     /// Compare all words after every event, not only those near the event's.
     pub careful: bool,
 }
@@ -38,6 +50,9 @@ impl Pair {
             named: [None; 2],
             tables: Room::new(),
             lent: Room::new(),
+            report: Room::new(),
+            due_report: Vec::new(),
+            reports: false,
             careful,
         }
     }
@@ -61,6 +76,16 @@ impl Pair {
         self.tables.lend().copy_from_slice(bytes);
     }
 
+    /// How the next event is asked: with so many bytes for the report, which
+    /// hold anything, or by its number alone.
+    pub fn set_report(&mut self, rng: &mut Rng, length: Option<usize>) {
+        self.reports = length.is_some();
+        self.report.lay_out(length.unwrap_or(0), rng.below(16) as usize);
+        self.report.lend().fill_with(|| rng.u64() as u8);
+        self.due_report.clear();
+        self.due_report.extend_from_slice(self.report.get());
+    }
+
     /// Fresh tables laid down by the library, in a room of any length.
     pub fn fresh(&mut self, length: usize, shift: usize) -> Result<i64, String> {
         self.set_tables(&vec![0x5A; length], shift);
@@ -75,15 +100,19 @@ impl Pair {
         if found == due && self.tables_agree() {
             return Ok(due);
         }
-        Err(self.report("vradomil_fresh", due, found))
+        Err(self.difference("vradomil_fresh", due, found))
     }
 
-    /// One event. Gives the number, or a text that shows the difference.
-    pub fn step(&mut self, event: &Event) -> Result<i64, String> {
+    /// One event. Gives what was answered, or a text that shows the difference.
+    pub fn step(&mut self, event: &Event) -> Result<Given, String> {
         let lent = self.lent.get().len();
         self.named = places(event).map(|place| place.map(|number| (number, self.words[number])));
-        let due = layout::number(layout::step(self.state.as_mut(), lent, &mut self.words, event));
-        let found = host::step(self.tables.lend(), self.lent.lend(), event);
+        let report = layout::step(self.state.as_mut(), lent, &mut self.words, event);
+        let due = layout::number(report.answer);
+        let found = self.ask(event);
+        if let Some(reason) = self.due_report.first_mut() {
+            *reason = report.reason;
+        }
         std::mem::swap(&mut self.before, &mut self.bytes);
         self.bytes.resize(self.before.len(), 0);
         match (&self.state, self.bytes.first_chunk_mut()) {
@@ -92,10 +121,23 @@ impl Pair {
         }
         let words_agree =
             if self.careful { self.words_agree() } else { self.words_near_agree(event) };
-        if found == due && self.tables_agree() && words_agree {
-            return Ok(due);
+        if found == due && self.report_agrees() && self.tables_agree() && words_agree {
+            return Ok(Given { number: due, reason: report.reason });
         }
-        Err(self.report(&format!("{event:?}"), due, found))
+        Err(self.difference(&format!("{event:?}"), due, found))
+    }
+
+    fn ask(&mut self, event: &Event) -> i64 {
+        let (tables, words) = (self.tables.lend(), self.lent.lend());
+        if self.reports {
+            host::step_report(tables, words, event, self.report.lend())
+        } else {
+            host::step(tables, words, event)
+        }
+    }
+
+    fn report_agrees(&self) -> bool {
+        self.report.get() == self.due_report && self.report.guards_hold()
     }
 
     fn tables_agree(&self) -> bool {
@@ -125,7 +167,7 @@ impl Pair {
     }
 
     /// All that is needed to see a difference again.
-    fn report(&self, event: &str, due: i64, found: i64) -> String {
+    fn difference(&self, event: &str, due: i64, found: i64) -> String {
         let mut text = format!("event: {event}\nwords lent: {} bytes\n", self.lent.get().len());
         for (number, word) in self.named.into_iter().flatten() {
             let _ = writeln!(text, "word {number} before: {word:#x}");
@@ -136,6 +178,10 @@ impl Pair {
             let _ = write!(text, "{byte:02x}");
         }
         let _ = write!(text, "\nanswer: second {due}, library {found}\n");
+        if !self.report_agrees() {
+            let (due, found) = (&self.due_report, self.report.get());
+            let _ = writeln!(text, "report: second {due:?}, library {found:?}, or bytes around it");
+        }
         for (at, (a, b)) in self.bytes.iter().zip(self.tables.get()).enumerate() {
             if a != b {
                 let _ = writeln!(text, "tables differ at {at}: second {a:02x}, library {b:02x}");

@@ -1,10 +1,12 @@
-//! How often each kind of event got each answer, and which of these must have
-//! come up for a run to count.
+//! How often each kind of event got each answer and each reason, and which of
+//! these must have come up for a run to count.
 
 use std::fmt::Write;
 
 use second::layout::ASLEEP;
 use second::model::{Event, PRIVATE_BIT};
+
+use crate::reasons::{self, Reasons};
 
 /// A kind of event: a command, or one of the others.
 pub type Kind = &'static str;
@@ -64,6 +66,33 @@ fn place(event: &Event) -> usize {
     }
 }
 
+pub fn kind(event: &Event) -> Kind {
+    KINDS[place(event)]
+}
+
+/// How an event was asked: by its number alone, or with no byte for its report,
+/// with one, with more.
+#[derive(Clone, Copy)]
+pub enum Form {
+    Number,
+    Empty,
+    Exact,
+    Longer,
+}
+
+const FORMS: &[&str] = &["number alone", "report of 0 bytes", "report of 1 byte", "report of more"];
+
+impl Form {
+    pub fn of(length: Option<usize>) -> Form {
+        match length {
+            None => Form::Number,
+            Some(0) => Form::Empty,
+            Some(1) => Form::Exact,
+            Some(_) => Form::Longer,
+        }
+    }
+}
+
 /// The answers that are told apart, each with its place.
 const ANSWERS: &[i64] = &[-110, -38, -22, -16, -14, -12, -11, -9, -6, -3, 0, SOME, SLEPT, NOBODY];
 
@@ -77,9 +106,12 @@ fn answer_place(number: i64) -> usize {
     ANSWERS.iter().position(|&answer| answer == group).unwrap_or(ANSWERS.len())
 }
 
-#[derive(Default)]
+type Counts = [u64; ANSWERS.len() + 1];
+
 pub struct Tally {
-    counts: [[u64; ANSWERS.len() + 1]; KINDS.len()],
+    counts: [[Counts; KINDS.len()]; FORMS.len()],
+    /// How often a kind was refused for a set of reasons, where it was seen.
+    reasons: [[u64; 256]; KINDS.len()],
     pub sound: u64,
     pub broken: u64,
     /// A bit for each number of sleepers that tables had, and for each rule
@@ -89,29 +121,75 @@ pub struct Tally {
 }
 
 impl Tally {
-    pub fn event(&mut self, event: &Event, number: i64) {
-        self.counts[place(event)][answer_place(number)] += 1;
+    pub fn new() -> Tally {
+        Tally {
+            counts: [[[0; ANSWERS.len() + 1]; KINDS.len()]; FORMS.len()],
+            reasons: [[0; 256]; KINDS.len()],
+            sound: 0,
+            broken: 0,
+            sleepers: 0,
+            breaks: 0,
+        }
+    }
+
+    /// An event, its answer, how it was asked and the reasons that applied.
+    pub fn event(&mut self, event: &Event, number: i64, form: Form, applying: Reasons) {
+        let kind = place(event);
+        self.counts[form as usize][kind][answer_place(number)] += 1;
+        if matches!(form, Form::Exact | Form::Longer) {
+            self.reasons[kind][applying as usize] += 1;
+        }
     }
 
     pub fn fresh(&mut self, number: i64) {
-        self.counts[KINDS.len() - 1][answer_place(number)] += 1;
+        self.counts[Form::Number as usize][KINDS.len() - 1][answer_place(number)] += 1;
     }
 
     pub fn events(&self) -> u64 {
-        self.counts.iter().flatten().sum()
+        self.counts.iter().flatten().flatten().sum()
+    }
+
+    /// The answers that should have come up and didn't, by each form.
+    fn missing_answers(&self, missing: &mut Vec<String>) {
+        for (form, counts) in FORMS.iter().zip(&self.counts) {
+            for (kind, counts) in KINDS.iter().zip(counts) {
+                let reported = !matches!(*kind, "query" | FRESH);
+                if !reported && *form != FORMS[0] {
+                    continue;
+                }
+                let both: &[i64] = if reported { &[-6, -9] } else { &[] };
+                for &answer in both.iter().chain(due(kind)) {
+                    if counts[answer_place(answer)] == 0 {
+                        missing.push(format!("{kind} answered {}, {form}", name(answer)));
+                    }
+                }
+            }
+        }
+    }
+
+    /// The reasons that should have come up alone, or two at once, and didn't.
+    fn missing_reasons(&self, missing: &mut Vec<String>) {
+        for (kind, counts) in KINDS.iter().zip(&self.reasons) {
+            let possible = reasons::possible(kind);
+            for (at, &reason) in possible.iter().enumerate() {
+                if counts[1 << reason] == 0 {
+                    missing.push(format!("{kind} refused for reason {reason} alone"));
+                }
+                for &other in &possible[at + 1..] {
+                    let both = 1 << reason | 1 << other;
+                    if (0..256).all(|set| set & both != both || counts[set] == 0) {
+                        missing.push(format!("{kind} with reasons {reason} and {other}"));
+                    }
+                }
+            }
+        }
     }
 
     /// What should have come up and didn't.
     pub fn missing(&self, breaks: usize) -> Vec<String> {
         let mut missing = Vec::new();
-        for (kind, counts) in KINDS.iter().zip(&self.counts) {
-            let both: &[i64] = if matches!(*kind, "query" | FRESH) { &[] } else { &[-6, -9] };
-            for &answer in both.iter().chain(due(kind)) {
-                if counts[answer_place(answer)] == 0 {
-                    missing.push(format!("{kind} answered {}", name(answer)));
-                }
-            }
-        }
+        self.missing_answers(&mut missing);
+        self.missing_reasons(&mut missing);
         for sleepers in (0..=64).filter(|&n| self.sleepers >> n & 1 == 0) {
             missing.push(format!("tables with {sleepers} sleepers"));
         }
@@ -121,22 +199,37 @@ impl Tally {
         missing
     }
 
-    /// One line: events by kind, answers, tables.
+    /// One line: events by kind, answers, forms, reasons seen, tables.
     pub fn summary(&self) -> String {
-        let mut text = format!("{} events (", self.events());
-        for (kind, counts) in KINDS.iter().zip(&self.counts) {
-            let _ = write!(text, "{kind} {}, ", counts.iter().sum::<u64>());
-        }
-        text.truncate(text.len() - 2);
-        text.push_str("), answers (");
-        for (at, &answer) in ANSWERS.iter().enumerate() {
-            let count: u64 = self.counts.iter().map(|counts| counts[at]).sum();
-            let _ = write!(text, "{}: {count}, ", name(answer));
-        }
-        text.truncate(text.len() - 2);
-        let _ = write!(text, "), tables sound {} broken {}", self.sound, self.broken);
+        let kinds = KINDS.iter().enumerate().map(|(at, kind)| {
+            let counts = self.counts.iter().flat_map(|counts| counts[at]);
+            format!("{kind} {}", counts.sum::<u64>())
+        });
+        let answers = ANSWERS.iter().enumerate().map(|(at, &answer)| {
+            let counts = self.counts.iter().flatten().map(|counts| counts[at]);
+            format!("{}: {}", name(answer), counts.sum::<u64>())
+        });
+        let forms = FORMS.iter().zip(&self.counts).map(|(form, counts)| {
+            let sum: u64 = counts.iter().flatten().sum();
+            format!("{form} {sum}")
+        });
+        let seen = (1..8).map(|reason| format!("{reason}: {}", self.refused_for(reason)));
+        let mut text = format!("{} events", self.events());
+        let _ = write!(text, " ({}), answers ({})", listed(kinds), listed(answers));
+        let _ = write!(text, ", asked ({}), reasons seen ({})", listed(forms), listed(seen));
+        let _ = write!(text, ", tables sound {} broken {}", self.sound, self.broken);
         text
     }
+
+    /// How often a reason was seen as the lowest.
+    fn refused_for(&self, reason: u8) -> u64 {
+        let sets = (0..=255).filter(|&set| reasons::lowest(set) == reason);
+        sets.flat_map(|set| self.reasons.iter().map(move |counts| counts[set as usize])).sum()
+    }
+}
+
+fn listed(parts: impl Iterator<Item = String>) -> String {
+    parts.collect::<Vec<_>>().join(", ")
 }
 
 fn name(answer: i64) -> String {

@@ -6,7 +6,7 @@
 
 use crate::bytes::{put_u32, put_u64, u32_at, u64_at};
 use crate::model::{
-    self, Answer, Call, Event, State, Thread, EBADF, ENXIO, INTERRUPTED, THREADS, WORDS,
+    self, Answer, Call, Event, Report, State, Thread, EBADF, ENXIO, INTERRUPTED, THREADS, WORDS,
 };
 
 pub const TABLE_BYTES: usize = 1296;
@@ -98,12 +98,12 @@ pub fn encode_words(words: &[u32], bytes: &mut [u8]) {
 /// One event on what tables stand for (none if they stand for nothing) and on
 /// words of `lent` bytes. The words' length comes first, since a call tests the
 /// lent memory before the tables; a panel query takes no words.
-pub fn step(state: Option<&mut State>, lent: usize, words: &mut [u32], event: &Event) -> Answer {
+pub fn step(state: Option<&mut State>, lent: usize, words: &mut [u32], event: &Event) -> Report {
     let panel = matches!(event, Event::Query { .. });
     match state {
-        _ if !panel && lent != WORD_BYTES => Answer::Number(ENXIO),
-        None if panel => Answer::Panel(0, 0, 8),
-        None => Answer::Number(EBADF),
+        _ if !panel && lent != WORD_BYTES => Report::plain(Answer::Number(ENXIO)),
+        None if panel => Report::plain(Answer::Panel(0, 0, 8)),
+        None => Report::plain(Answer::Number(EBADF)),
         Some(state) => model::step(state, words, event),
     }
 }
@@ -123,12 +123,12 @@ pub fn number(answer: Answer) -> i64 {
 fn apply(tables: &mut [u8], words: &mut [u8], event: &Event) -> i32 {
     let mut state = decode(tables);
     let mut numbers = decode_words(words);
-    let answer = step(state.as_mut(), words.len(), &mut numbers, event);
+    let report = step(state.as_mut(), words.len(), &mut numbers, event);
     if let (Some(state), WORD_BYTES) = (state, words.len()) {
         tables.copy_from_slice(&encode(&state));
         encode_words(&numbers, words);
     }
-    number(answer) as i32
+    number(report.answer) as i32
 }
 
 pub fn call(tables: &mut [u8], words: &mut [u8], call: &Call) -> i32 {
@@ -149,7 +149,7 @@ pub fn interrupt(tables: &mut [u8], words: &mut [u8], process: u8, index: u8) ->
 
 /// The three numbers of a panel query.
 pub fn query(tables: &[u8], process: u8) -> (u8, u32, u32) {
-    match step(decode(tables).as_mut(), 0, &mut [], &Event::Query { process }) {
+    match step(decode(tables).as_mut(), 0, &mut [], &Event::Query { process }).answer {
         Answer::Panel(bits, count, lowest) => (bits, count, lowest),
         _ => (0, 0, 8),
     }

@@ -1,5 +1,6 @@
-//! The futex kernel by the rules of document 01: the events, the answers and
-//! `step`, which applies one event to the tables and the lent words.
+//! The futex kernel by the rules of document 01 and request (i) of document 02:
+//! the events, what they report and `step`, which applies one event to the
+//! tables and the lent words.
 
 mod calls;
 mod tables;
@@ -28,6 +29,16 @@ pub const EBUSY: i32 = -16;
 pub const EINVAL: i32 = -22;
 pub const ENOSYS: i32 = -38;
 pub const ETIMEDOUT: i32 = -110;
+
+// The reasons beside a number: which argument rule was broken. Only -22 has one.
+pub const NO_REASON: u8 = 0;
+pub const FIRST_CAP: u8 = 1;
+pub const SECOND_CAP: u8 = 2;
+pub const MASK_ZERO: u8 = 3;
+pub const UADDR_NOT_ALIGNED: u8 = 4; // also a store's address
+pub const UADDR2_NOT_ALIGNED: u8 = 5;
+pub const SAME_ADDRESS: u8 = 6;
+pub const CLOCK_WENT_BACK: u8 = 7;
 
 /// The command numbers.
 pub const WAIT: u32 = 0;
@@ -66,7 +77,7 @@ pub enum Event {
     Query { process: u8 },
 }
 
-/// All that an event reports.
+/// What an event answers.
 #[derive(Clone, Copy, Debug, PartialEq, Eq)]
 pub enum Answer {
     Asleep,
@@ -76,7 +87,7 @@ pub enum Answer {
 }
 
 impl fmt::Display for Answer {
-    /// An answer as replays and scripts print it.
+    /// An answer as replays print it.
     fn fmt(&self, out: &mut fmt::Formatter) -> fmt::Result {
         match self {
             Answer::Asleep => write!(out, "asleep"),
@@ -86,26 +97,73 @@ impl fmt::Display for Answer {
     }
 }
 
+/// All that an event reports.
+#[derive(Clone, Copy, Debug, PartialEq, Eq)]
+pub struct Report {
+    pub answer: Answer,
+    pub reason: u8,
+}
+
+impl Report {
+    /// An answer that needs no reason.
+    pub fn plain(answer: Answer) -> Report {
+        Report { answer, reason: NO_REASON }
+    }
+}
+
+impl fmt::Display for Report {
+    /// A report as scripts print it: the answer, then the reason if there is one.
+    fn fmt(&self, out: &mut fmt::Formatter) -> fmt::Result {
+        match self.reason {
+            NO_REASON => write!(out, "{}", self.answer),
+            reason => write!(out, "{} reason {reason}", self.answer),
+        }
+    }
+}
+
+/// A test that didn't pass: the number to answer, and why.
+struct Refusal {
+    number: i32,
+    reason: u8,
+}
+
+impl Refusal {
+    /// -22, the one refusal that has a reason.
+    fn argument(reason: u8) -> Refusal {
+        Refusal { number: EINVAL, reason }
+    }
+}
+
+/// Every other refusal is its number alone.
+impl From<i32> for Refusal {
+    fn from(number: i32) -> Refusal {
+        Refusal { number, reason: NO_REASON }
+    }
+}
+
 /// Applies one event. A refusal is an `Err` inside, so that each test can
 /// leave at once; nothing is changed before the last test has passed.
-pub fn step(state: &mut State, words: &mut [u32], event: &Event) -> Answer {
+pub fn step(state: &mut State, words: &mut [u32], event: &Event) -> Report {
     let result = match *event {
         Event::Call(ref call) => calls::call(state, words, call),
         Event::Store { process, address, value } => store(state, words, process, address, value),
         Event::Clock { time } => clock(state, words, time),
         Event::Interrupt { process, index } => interrupt(state, words, process, index),
-        Event::Query { process } => return query(state, process),
+        Event::Query { process } => Ok(query(state, process)),
     };
-    result.unwrap_or_else(Answer::Number)
+    match result {
+        Ok(answer) => Report::plain(answer),
+        Err(Refusal { number, reason }) => Report { answer: Answer::Number(number), reason },
+    }
 }
 
 /// The two tests that come first for every event but a panel query.
-fn check_lent(state: &State, words: &[u32]) -> Result<(), i32> {
+fn check_lent(state: &State, words: &[u32]) -> Result<(), Refusal> {
     if words.len() != WORDS {
-        return Err(ENXIO);
+        return Err(ENXIO.into());
     }
     if !state.rules_hold() {
-        return Err(EBADF);
+        return Err(EBADF.into());
     }
     Ok(())
 }
@@ -132,32 +190,32 @@ fn store(
     process: u8,
     address: u32,
     value: u32,
-) -> Result<Answer, i32> {
+) -> Result<Answer, Refusal> {
     check_lent(state, words)?;
     if process as usize >= PROCESSES {
-        return Err(ESRCH);
+        return Err(ESRCH.into());
     }
     if address % 4 != 0 {
-        return Err(EINVAL);
+        return Err(Refusal::argument(UADDR_NOT_ALIGNED));
     }
     if address >= FIRST_BAD_ADDRESS {
-        return Err(EFAULT);
+        return Err(EFAULT.into());
     }
     words[word_number(process, address)] = value;
     Ok(Answer::Number(0))
 }
 
-fn clock(state: &mut State, words: &[u32], time: u64) -> Result<Answer, i32> {
+fn clock(state: &mut State, words: &[u32], time: u64) -> Result<Answer, Refusal> {
     check_lent(state, words)?;
     if time < state.clock {
-        return Err(EINVAL);
+        return Err(Refusal::argument(CLOCK_WENT_BACK));
     }
     state.clock = time;
     let over = |_: usize, thread: &Thread| thread.timed && thread.deadline <= time;
     Ok(Answer::Number(state.end_sleeps(u32::MAX, TIMED_OUT, over)))
 }
 
-fn interrupt(state: &mut State, words: &[u32], process: u8, index: u8) -> Result<Answer, i32> {
+fn interrupt(state: &mut State, words: &[u32], process: u8, index: u8) -> Result<Answer, Refusal> {
     check_lent(state, words)?;
     let target = thread_number(process, index).ok_or(ESRCH)?;
     // Only waiting threads are on the list, so a running one ends nothing: 0.

@@ -115,8 +115,8 @@ impl Machine {
         match *record {
             Record::Event(ref event) => {
                 let words = &mut self.memory[..self.lent];
-                let answer = model::step(&mut self.state, words, event);
-                writeln!(out, "{answer}")
+                let report = model::step(&mut self.state, words, event);
+                writeln!(out, "{report}")
             }
             Record::Fresh => {
                 self.state = State::fresh();

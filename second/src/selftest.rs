@@ -1,6 +1,6 @@
 //! Checks of this program by itself: the cases of document 01, its sentences
-//! one by one, round trips, and random runs against the rules said once more
-//! in another way.
+//! one by one, the reasons of document 02, round trips, and random runs against
+//! the rules said once more in another way.
 
 mod calls;
 mod declared;
@@ -8,12 +8,13 @@ mod histories;
 mod layouts;
 mod logs;
 mod others;
+mod reasons;
 mod scripts;
 mod twelve;
 
 use std::fmt::Debug;
 
-use crate::model::{self, Answer, Event, State, WORDS};
+use crate::model::{self, Answer, Event, Report, State, WORDS};
 
 /// Counts what held and prints what didn't.
 #[derive(Default)]
@@ -57,8 +58,12 @@ impl Display {
         display
     }
 
-    fn answer(&mut self, event: Event) -> Answer {
+    fn report(&mut self, event: Event) -> Report {
         model::step(&mut self.state, &mut self.words, &event)
+    }
+
+    fn answer(&mut self, event: Event) -> Answer {
+        self.report(event).answer
     }
 
     /// The answer as replays print it.
@@ -77,6 +82,7 @@ pub fn run() -> Checks {
     twelve::run(&mut checks);
     calls::run(&mut checks);
     others::run(&mut checks);
+    reasons::run(&mut checks);
     logs::run(&mut checks);
     layouts::run(&mut checks);
     scripts::run(&mut checks);

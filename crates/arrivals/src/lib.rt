@@ -106,15 +106,18 @@ pub fn seen_in(list: [u8; THREADS], count: usize) -> Seen
     }
 }
 
-// The entries past the count name no thread.
+// The entries past the count name no thread. All are looked at, with a counter of a byte, so that the loop is the same whatever the count.
 pub fn tail_ok(list: [u8; THREADS], count: usize) -> bool
     requires { ⌜ count ≤ threads ⌝ }
     ensures { λ r. ⌜ r ≡ all (λ e. eqb e noEntry) (drop count list) ⌝ }
 {
+    let end = count as u8;
     let mut ok = true;
-    let mut i = count;
+    let mut k: u8 = 0;
+    let mut i: usize = 0;
     while i < THREADS {
-        ok = ok & (list[i] == NO_ENTRY);
+        ok = ok & ((k < end) | (list[i] == NO_ENTRY));
+        k += 1;
         i += 1;
     }
     ok

@@ -1,6 +1,7 @@
 // What a script prints: answers, words and tables.
 use crate::script::last_code;
 use rules::answer::Answer;
+use rules::answer::Reason;
 use tables::State;
 use tables::THREADS;
 use tables::Thread;
@@ -23,13 +24,26 @@ pub(crate) fn line(n: u64) {
     text(b"\n");
 }
 
+// The reason, where there is one.
+fn reason(r: Reason) {
+    let n = r.number();
+    if n != 0 {
+        text(b" reason");
+        spaced(n as u64);
+    }
+}
+
 pub(crate) fn answer(a: Answer) {
     match a {
         Answer::Asleep => text(b"asleep\n"),
         Answer::Count(n) => line(n as u64),
         Answer::Refused(x) => {
             text(b"-");
-            line(x.number() as u64);
+            let e = x.errno;
+            number(e.number() as u64);
+            let r = x.reason;
+            reason(r);
+            text(b"\n");
         }
         Answer::Waiting(p) => {
             number(p.waiting as u64);

@@ -2,7 +2,7 @@
 use mathlib.Core.Path.{_≡_, refl, sym, ap, subst, subst₂, _∙_}
 use mathlib.Core.Logic.{_⊎_, inl, inr}
 use mathlib.Core.Bool.{true, false, not, cond, _||_}
-use mathlib.Core.List.{List, _∷_, map}
+use mathlib.Core.List.{List, _∷_}
 use Prim.Native.Nat.{ℕ, _+_, _*_, _^_, _≤_, _<_}
 use native.Mathlib.Omega.{arith}
 use lib.IntN.{ℤ}
@@ -17,11 +17,11 @@ use Rattle.tables.specs.Tables.{tablesOk}
 use Rattle.tables.proofs.Sound.{tables-sound}
 use Rattle.rules.specs.declared.event.Event.{Event}
 use Rattle.rules.specs.declared.event.Event.the-variants.{Call as CallEvent, Store, Clock, Interrupt, Query}
-use Rattle.rules.specs.declared.answer.Errno.{Errno}
+use Rattle.rules.specs.declared.answer.Refusal.{Refusal}
 use Rattle.rules.specs.declared.answer.Errno.the-variants.{ENXIO, EBADF}
 use Rattle.rules.specs.declared.answer.Verdict.the-variants.{Refuse}
 use Rattle.rules.specs.declared.answer.Answer.the-variants.{Refused}
-use Rattle.rules.specs.Answers.{Outcome, outcome, isRefused}
+use Rattle.rules.specs.Answers.{plain, Outcome, outcome, isRefused}
 use Rattle.rules.specs.Calls.{noProcess}
 use Rattle.rules.specs.Events.{isQuery, step, waitingSet, panelOf, panel}
 use Rattle.rules.specs.History.{final, answers}
@@ -36,8 +36,9 @@ use Rattle.vradomil.specs.Host.{seen, hostNumber, packed, BuffersJudged}
 use Rattle.vradomil.proofs.Memory.{words-length, word-fits}
 use Rattle.vradomil.proofs.FirstRows.{refused-memory, refused-tables}
 use Rattle.vradomil.proofs.Steps.{event-refused}
-use Rattle.hosting.specs.Hosts.{Hosted, HostRuns, over, next}
+use Rattle.hosting.specs.Hosts.{Hosted, Heard, hearsAll, HostRuns, over, next}
 use Rattle.hosting.proofs.Hosting.{Stand, seen-is, stepped, asked, refused-stays}
+use Rattle.hosting.proofs.Heard.{heard-is}
 
 -- numbers of some bytes fit that many
 module _ (b : List ℕ) (size : length b ≡ tablesSize) (low : Bytes b) where
@@ -61,8 +62,8 @@ module _ (b : List ℕ) (size : length b ≡ tablesSize) (low : Bytes b) where
 
 -- bytes that the first two rows refuse
 pub record Unfit (b m : List ℕ) : Type 0 where
-  pub errno : Errno
-  pub judged : BuffersJudged b m (Refuse errno)
+  pub refusal : Refusal
+  pub judged : BuffersJudged b m (Refuse refusal)
 
 abbrev pub Lent : List ℕ → List ℕ → Type 0
 Lent b m = Stand b m (seen b m) ⊎ Unfit b m
@@ -85,8 +86,8 @@ module _ (b m : List ℕ) (lb : Bytes b) (lm : Bytes m) where
   pub lent : Lent b m
   lent = cases (eqb (length m) memorySize)
       (λ e. let size = eqb-true (length m) memorySize e in
-      cases (tablesOk (tablesAt b)) (λ ok. inl (fit size (held-if ok))) (λ bad. inr (record { errno = EBADF; judged = refused-tables b m size bad })))
-      (λ e. inr (record { errno = ENXIO; judged = refused-memory b m (eqb-false (length m) memorySize e) }))
+      cases (tablesOk (tablesAt b)) (λ ok. inl (fit size (held-if ok))) (λ bad. inr (record { refusal = plain EBADF; judged = refused-tables b m size bad })))
+      (λ e. inr (record { refusal = plain ENXIO; judged = refused-memory b m (eqb-false (length m) memorySize e) }))
 
 -- an event on refused bytes leaves them, and the rules leave the world
 record Same (e : Event) (b m b1 m1 : List ℕ) : Type 0 where
@@ -95,18 +96,18 @@ record Same (e : Event) (b m b1 m1 : List ℕ) : Type 0 where
   world : step e (seen b m) .world ≡ seen b m
 
 module _ (e : Event) {b m : List ℕ} (u : Unfit b m) (some : isQuery e ≡ false) where
-  refused-step : step e (seen b m) ≡ outcome (Refused (u .errno)) (seen b m)
-  refused-step = step-refused e (seen b m) (u .errno) (event-refused e b m (Refuse (u .errno)) (u .judged) some (u .errno) refl)
+  refused-step : step e (seen b m) ≡ outcome (Refused (u .refusal)) (seen b m)
+  refused-step = step-refused e (seen b m) (u .refusal) (event-refused e b m (Refuse (u .refusal)) (u .judged) some (u .refusal) refl)
 
-  pub refused-number : {b1 m1 : List ℕ} {r : ℤ} → Hosted e b m r b1 m1 → r ≡ hostNumber (Refused (u .errno))
+  pub refused-number : {lent b1 m1 told : List ℕ} {r : ℤ} → Hosted e b m lent r b1 m1 told → r ≡ hostNumber (Refused (u .refusal))
   refused-number h = h .number ∙ ap (λ (o : Outcome). hostNumber (o .answer)) refused-step
 
-  refused : {b1 m1 : List ℕ} {r : ℤ} → Hosted e b m r b1 m1 → Same e b m b1 m1
+  refused : {lent b1 m1 told : List ℕ} {r : ℤ} → Hosted e b m lent r b1 m1 told → Same e b m b1 m1
   refused h =
       let stays = refused-stays h (ap (λ (o : Outcome). isRefused (o .answer)) refused-step) in
       record { tables = stays .0; words = stays .1; world = ap (λ (o : Outcome). o .world) refused-step }
 
-same : (e : Event) {b m b1 m1 : List ℕ} {r : ℤ} → Unfit b m → Hosted e b m r b1 m1 → Same e b m b1 m1
+same : (e : Event) {b m lent b1 m1 told : List ℕ} {r : ℤ} → Unfit b m → Hosted e b m lent r b1 m1 told → Same e b m b1 m1
 same (CallEvent c) u h = refused (CallEvent c) u refl h
 same (Store p a v) u h = refused (Store p a v) u refl h
 same (Clock now) u h = refused (Clock now) u refl h
@@ -122,12 +123,12 @@ not-query (Interrupt p i) h = refl
 not-query (Query p) h = absurd (h p refl)
 
 -- words of another length, and tables of another length
-module _ {e : Event} {b m b1 m1 : List ℕ} {r : ℤ} (h : Hosted e b m r b1 m1) (some : (p : ℕ) → e ≡ Query p → ⊥) where
-  pub wrong-memory : (length m ≡ memorySize → ⊥) → r ≡ hostNumber (Refused ENXIO)
-  wrong-memory other = refused-number e (record { errno = ENXIO; judged = refused-memory b m other }) (not-query e some) h
+module _ {e : Event} {b m lent b1 m1 told : List ℕ} {r : ℤ} (h : Hosted e b m lent r b1 m1 told) (some : (p : ℕ) → e ≡ Query p → ⊥) where
+  pub wrong-memory : (length m ≡ memorySize → ⊥) → r ≡ hostNumber (Refused (plain ENXIO))
+  wrong-memory other = refused-number e (record { refusal = plain ENXIO; judged = refused-memory b m other }) (not-query e some) h
 
-  pub wrong-tables : length m ≡ memorySize → (length b ≡ tablesSize → ⊥) → r ≡ hostNumber (Refused EBADF)
-  wrong-tables size other = refused-number e (record { errno = EBADF; judged = refused-tables b m size (wrong-size b other) }) (not-query e some) h
+  pub wrong-tables : length m ≡ memorySize → (length b ≡ tablesSize → ⊥) → r ≡ hostNumber (Refused (plain EBADF))
+  wrong-tables size other = refused-number e (record { refusal = plain EBADF; judged = refused-tables b m size (wrong-size b other) }) (not-query e some) h
 
 pub wrong-panel : (p : ℕ) (b : List ℕ) → (length b ≡ tablesSize → ⊥) → packed (panel p (tablesAt b)) ≡ packed (panelOf 0)
 unfolding panel
@@ -135,8 +136,8 @@ wrong-panel p b other = ap (λ x. packed (panelOf (cond (noProcess p || not x) 0
     ∙ cases (noProcess p) (λ e. rw e) (λ e. rw e)
 
 -- one event: the bytes that it leaves stand for what the rules leave
-after : {e : Event} {b m b1 m1 : List ℕ} {r : ℤ} → Lent b m → Hosted e b m r b1 m1 → (seen b1 m1 ≡ step e (seen b m) .world) × Lent b1 m1
-after {e} {b} {m} {b1} {m1} (inl s) h =
+after : {e : Event} {b m lent b1 m1 told : List ℕ} {r : ℤ} → Lent b m → Hosted e b m lent r b1 m1 told → (seen b1 m1 ≡ step e (seen b m) .world) × Lent b1 m1
+after {e} {b} {m} {b1 = b1} {m1} (inl s) h =
     let stand = stepped b m s h in
     let is = seen-is b1 m1 (step e (seen b m) .world) stand in
     (is, inl (subst (Stand b1 m1) (sym is) stand))
@@ -145,11 +146,11 @@ after {e} (inr u) h =
     ((λ j. seen (k .tables j) (k .words j)) ∙ sym (k .world), inr (subst₂ Unfit (sym (k .tables)) (sym (k .words)) u))
 
 -- a whole history
-pub ran : {h : List Event} {b m b2 m2 : List ℕ} {rs : List ℤ} → HostRuns h b m rs b2 m2 → Lent b m
-    → (rs ≡ map hostNumber (answers h (seen b m))) × (seen b2 m2 ≡ final h (seen b m))
-ran over l = (refl, refl)
-ran (next {es = es} h run) l =
+pub ran : (room : Event → ℕ) {h : List Event} {b m b2 m2 : List ℕ} {hs : List Heard} → HostRuns room h b m hs b2 m2 → Lent b m
+    → (hs ≡ hearsAll room h (answers h (seen b m))) × (seen b2 m2 ≡ final h (seen b m))
+ran room over l = (refl, refl)
+ran room (next {es = es} long h run) l =
     let one = after l h in
-    let rest = ran run (one .1) in
-    let numbers = rest .0 ∙ ap (λ w. map hostNumber (answers es w)) (one .0) in
-    (λ j. h .number j ∷ numbers j, rest .1 ∙ ap (final es) (one .0))
+    let rest = ran room run (one .1) in
+    let told = rest .0 ∙ ap (λ w. hearsAll room es (answers es w)) (one .0) in
+    (λ j. heard-is room long h j ∷ told j, rest .1 ∙ ap (final es) (one .0))

@@ -1,6 +1,5 @@
 -- The day of specs/Day.antt, computed.
 use mathlib.Core.Path.{_≡_, refl}
-use mathlib.Core.List.{map}
 use lib.ListN.{replicate}
 use lib.Count.{ones, trailingZeros}
 use Rattle.lists.specs.Lists.{everyBelow}
@@ -8,12 +7,13 @@ use Rattle.tables.specs.Sizes.{memoryWords}
 use Rattle.tables.specs.Tables.{expiredSleepers, queue, tablesOk, recordOk, fresh, change, endSleeps, fallAsleep, writeWord}
 use Rattle.rules.specs.Commands.{commandOf, notImplemented}
 use Rattle.rules.specs.WakeOp.{undefinedOp}
-use Rattle.rules.specs.Calls.{badArgument, badAddress, callRows, candidates, released, wait, wake, callEffect}
+use Rattle.rules.specs.Calls.{argumentRows, badAddress, callRows, candidates, released, wait, wake, callEffect}
 use Rattle.rules.specs.Events.{refusals, clockEffect, interruptEffect, effect, step, panel, waitingSet, bitsBelow}
 use Rattle.rules.specs.History.{start, answers}
-use Rattle.vradomil.specs.Host.{hostNumber}
-use Rattle.hosting.specs.Day.{day, dayNumbers}
+use Rattle.vradomil.specs.Host.{reportSize}
+use Rattle.hosting.specs.Hosts.{hearsAll}
+use Rattle.hosting.specs.Day.{day, dayHeard}
 
-pub day-numbers : map hostNumber (answers day (start (replicate memoryWords 0))) ≡ dayNumbers
-unfolding step refusals effect callRows callEffect wait wake released candidates queue badArgument badAddress notImplemented commandOf undefinedOp tablesOk recordOk fresh change endSleeps fallAsleep writeWord expiredSleepers clockEffect interruptEffect everyBelow panel waitingSet bitsBelow ones trailingZeros
-day-numbers = refl
+pub day-heard : hearsAll (λ e. reportSize) day (answers day (start (replicate memoryWords 0))) ≡ dayHeard
+unfolding step refusals effect callRows callEffect wait wake released candidates queue argumentRows badAddress notImplemented commandOf undefinedOp tablesOk recordOk fresh change endSleeps fallAsleep writeWord expiredSleepers clockEffect interruptEffect everyBelow panel waitingSet bitsBelow ones trailingZeros
+day-heard = refl

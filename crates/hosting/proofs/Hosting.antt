@@ -1,7 +1,7 @@
 -- Bytes that stand for a world: what each entry point leaves stands for what the rules leave.
 use mathlib.Core.Path.{_≡_, refl, sym, ap, _∙_}
 use mathlib.Core.Bool.{Bool, true, false}
-use mathlib.Core.List.{List, [], _∷_, map}
+use mathlib.Core.List.{List}
 use Prim.Native.Nat.{ℕ}
 use lib.IntN.{ℤ, pos, negsuc}
 use Rattle.lists.proofs.Tests.{cases, clash}
@@ -13,7 +13,6 @@ use Rattle.tables.specs.Tables.{World, writeWord}
 use Rattle.tables.proofs.Sound.{sound-tables}
 use Rattle.rules.specs.Answers.{isRefused}
 use Rattle.rules.specs.Events.{refusals, clockEffect, panel, effect, step}
-use Rattle.rules.specs.History.{belongs, entriesOf}
 use Rattle.rules.proofs.Rows.{step-keeps}
 use Rattle.rules.proofs.Preserved.{Valid, step-valid}
 use Rattle.rules.proofs.Theorems.{refusal-leaves-all}
@@ -51,7 +50,7 @@ unfolding step refusals effect
 shown p w = refl
 
 -- On any bytes: the number is the answer's, and a refusal leaves every byte.
-pub refused-stays : {e : Event} {b m b1 m1 : List ℕ} {r : ℤ} → Hosted e b m r b1 m1 → isRefused (step e (seen b m) .answer) ≡ true → (b1 ≡ b) × (m1 ≡ m)
+pub refused-stays : {e : Event} {b m lent b1 m1 told : List ℕ} {r : ℤ} → Hosted e b m lent r b1 m1 told → isRefused (step e (seen b m) .answer) ≡ true → (b1 ≡ b) × (m1 ≡ m)
 refused-stays {e} h is = (
   h .tables ∙ cases (touchesTables e) (λ k. rw (k, is)) (λ k. rw k),
   h .words ∙ cases (touchesWords e) (λ k. rw (k, is)) (λ k. rw k),
@@ -102,7 +101,7 @@ module _ (b m : List ℕ) (s : Stand b m (seen b m)) where
       → Stand b1 m1 (step e (seen b m) .world)
   left e f tables words = record { tables = tables; words = words; valid = step-valid e (seen b m) (s .valid); fits = step-fits e (seen b m) f (s .fits) }
 
-  pub stepped : {e : Event} {b1 m1 : List ℕ} {r : ℤ} → Hosted e b m r b1 m1 → Stand b1 m1 (step e (seen b m) .world)
+  pub stepped : {e : Event} {lent b1 m1 told : List ℕ} {r : ℤ} → Hosted e b m lent r b1 m1 told → Stand b1 m1 (step e (seen b m) .world)
   stepped {e} h = left e (h .fits)
       (h .tables ∙ cases (touchesTables e)
       (λ k. rw k (left-tables e))
@@ -110,11 +109,3 @@ module _ (b m : List ℕ) (s : Stand b m (seen b m)) where
       (h .words ∙ cases (touchesWords e)
       (λ k. rw k (left-words e))
       (λ k. rw k (s .words ∙ ap wordsBytes (sym (words-kept e (seen b m) k)))))
-
--- the numbers of the process's events are those of its answers
-pub entries-map : {A B : Type 0} (f : A → B) (p : ℕ) (h : List Event) (l : List A) → entriesOf p h (map f l) ≡ map f (entriesOf p h l)
-entries-map f p [] l = refl
-entries-map f p (e ∷ es) [] = refl
-entries-map f p (e ∷ es) (x ∷ l) =
-    let ih = entries-map f p es l in
-    cases (belongs p e) (λ k. rw (k, ih)) (λ k. rw (k, ih))

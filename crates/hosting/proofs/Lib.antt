@@ -1,5 +1,7 @@
 pub mod Fitting
 pub mod Hosting
+pub mod Passing
+pub mod Heard
 pub mod Buffers
 pub mod Running
 pub mod Starting

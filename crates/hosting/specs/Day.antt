@@ -1,9 +1,10 @@
--- A short day of a display, and what a host in C is answered, by document 01's numbers. proofs/Theorems.antt has its statement, `host-day`.
+-- A short day of a display, and what a host in C hears of it, by the papers' numbers. proofs/Theorems.antt has its statement, `host-day`.
 use mathlib.Core.List.{List, [], _∷_}
 use Prim.Native.Nat.{ℕ}
 use lib.IntN.{ℤ, pos, negℤ}
 use Rattle.rules.specs.declared.event.Event.{Event}
 use Rattle.rules.specs.declared.event.Event.the-variants.{Call, Store, Clock, Interrupt, Query}
+use Rattle.hosting.specs.Hosts.{Heard}
 
 -- thread (p, i) waits at address 8, where flag says whether a timeout is given, or wakes there
 abbrev waits : ℕ → ℕ → ℕ → ℕ → ℕ → Event
@@ -31,24 +32,33 @@ day =
     ∷ Query 9
     ∷ wakes 9 0 1
     ∷ Clock 99
+    -- a cap that is too high, and two wrong arguments at once: the lower reason
+    ∷ wakes 0 2 2147483648
+    ∷ Call (record { process = 0; index = 2; op = 3; uaddr = 9; val = 1; flag = 0; timeout = 2147483648; uaddr2 = 12; val3 = 0 })
     ∷ []
 
-abbrev pub dayNumbers : List ℤ
-dayNumbers =
+-- a number, and the reason beside it in a report of one byte
+abbrev says : ℤ → ℕ → Heard
+says z reason = record { number = z; report = reason ∷ [] }
+
+abbrev pub dayHeard : List Heard
+dayHeard =
     -- "prints `0`, `asleep`, `1`", and "There "asleep" is 2147483647"
-    pos 0
-    ∷ pos 2147483647
-    ∷ pos 1
-    ∷ pos 2147483647
-    ∷ pos 2147483647
+    says (pos 0) 0
+    ∷ says (pos 2147483647) 0
+    ∷ says (pos 1) 0
+    ∷ says (pos 2147483647) 0
+    ∷ says (pos 2147483647) 0
     -- bits 1 and 3, two of them, the lowest 1
-    ∷ pos 0x01020A
-    ∷ negℤ (pos 11)
-    ∷ pos 1
-    ∷ pos 1
-    ∷ pos 0
+    ∷ record { number = pos 0x01020A; report = [] }
+    ∷ says (negℤ (pos 11)) 0
+    ∷ says (pos 1) 0
+    ∷ says (pos 1) 0
+    ∷ says (pos 0) 0
     -- "0, 0, 8"
-    ∷ pos 0x080000
-    ∷ negℤ (pos 3)
-    ∷ negℤ (pos 22)
+    ∷ record { number = pos 0x080000; report = [] }
+    ∷ says (negℤ (pos 3)) 0
+    ∷ says (negℤ (pos 22)) 7
+    ∷ says (negℤ (pos 22)) 1
+    ∷ says (negℤ (pos 22)) 2
     ∷ []

@@ -1,4 +1,5 @@
 // Hosting: what is proved of whole histories that a host in C runs through the library. It stands on vradomil.
+ghost use mathlib.Core.List.{[]};
 ghost use Rattle.hosting.specs.Hosts.{Hosted};
 use rules::event::Event;
 use vradomil::call::vradomil_call;
@@ -6,10 +7,14 @@ use vradomil::event::vradomil_clock;
 use vradomil::event::vradomil_interrupt;
 use vradomil::event::vradomil_query;
 use vradomil::event::vradomil_store;
+use vradomil::report::vradomil_call_report;
+use vradomil::report::vradomil_clock_report;
+use vradomil::report::vradomil_interrupt_report;
+use vradomil::report::vradomil_store_report;
 
-// An event as a host passes it to its entry point. The theorems take for known of an event what this ensures, and no more.
+// An event as a host passes it to its entry point. The theorems take for known of an event what this and pass_report ensure, and no more.
 pub fn pass(tables: &mut [u8], words: &mut [u8], e: Event) -> i64
-    ensures { λ r. ⌜ Hosted e (now (tables .entry)) (now (words .entry)) r (now (tables .exit)) (now (words .exit)) ⌝ }
+    ensures { λ r. ⌜ Hosted e (now (tables .entry)) (now (words .entry)) [] r (now (tables .exit)) (now (words .exit)) [] ⌝ }
 {
     match e {
         Event::Call(c) => {
@@ -42,6 +47,51 @@ pub fn pass(tables: &mut [u8], words: &mut [u8], e: Event) -> i64
         }
         Event::Interrupt { process, index } => {
             let r = vradomil_interrupt(tables, words, process, index);
+            r as i64
+        }
+        Event::Query { process } => {
+            let n = vradomil_query(tables, process);
+            n as i64
+        }
+    }
+}
+
+// The same with a report, of which a panel query has none.
+pub fn pass_report(tables: &mut [u8], words: &mut [u8], e: Event, report: &mut [u8]) -> i64
+    ensures { λ r. ⌜ Hosted e (now (tables .entry)) (now (words .entry)) (now (report .entry)) r (now (tables .exit)) (now (words .exit)) (now (report .exit)) ⌝ }
+{
+    match e {
+        Event::Call(c) => {
+            let r = vradomil_call_report(
+                tables,
+                words,
+                c.process,
+                c.index,
+                c.op,
+                c.uaddr,
+                c.val,
+                c.flag,
+                c.timeout,
+                c.uaddr2,
+                c.val3,
+                report,
+            );
+            r as i64
+        }
+        Event::Store {
+            process,
+            address,
+            value,
+        } => {
+            let r = vradomil_store_report(tables, words, process, address, value, report);
+            r as i64
+        }
+        Event::Clock { time } => {
+            let r = vradomil_clock_report(tables, words, time, report);
+            r as i64
+        }
+        Event::Interrupt { process, index } => {
+            let r = vradomil_interrupt_report(tables, words, process, index, report);
             r as i64
         }
         Event::Query { process } => {

@@ -4,7 +4,7 @@ use mathlib.Core.List.{List}
 use Prim.Native.Nat.{ℕ}
 use Rattle.tables.specs.declared.State.{State}
 use Rattle.rules.specs.declared.event.Event.{Event}
-use Rattle.rules.specs.declared.answer.Errno.{Errno}
+use Rattle.rules.specs.declared.answer.Refusal.{Refusal}
 use Rattle.rules.specs.declared.answer.Verdict.{Verdict}
 use Rattle.rules.specs.declared.answer.Verdict.the-variants.{Refuse, Pass}
 use Rattle.rules.specs.declared.answer.Answer.the-variants.{Refused}
@@ -26,7 +26,7 @@ module _ (e : Event) (s : State) (ws : List ℕ) (v : Verdict) (tested : v ≡ f
   pub cleared : v ≡ Pass → Clear (refusals e (world s ws))
   cleared h = pass-clear (refusals e (world s ws)) (sym tested ∙ h)
 
-  pub follows-refused : (r : Answered) (x : Errno) → v ≡ Refuse x → r ≡ record { answer = Refused x; state = s } → Follows e s ws r ws
+  pub follows-refused : (r : Answered) (x : Refusal) → v ≡ Refuse x → r ≡ record { answer = Refused x; state = s } → Follows e s ws r ws
   follows-refused r x h is =
       let done = step-refused e (world s ws) x (sym tested ∙ h) in
       follows e s ws r ws (is ∙ ap answered (sym done)) (ap (λ (o : Outcome). o .world .words) (sym done))

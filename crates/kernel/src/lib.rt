@@ -7,11 +7,11 @@ pub mod event;
 
 use rules::answer::Answer;
 use rules::answer::Answered;
-use rules::answer::Errno;
+use rules::answer::Refusal;
 use tables::State;
 
 // A refusal: the tables are handed back as they came.
-fn refused(x: Errno, s: State) -> Answered
+fn refused(x: Refusal, s: State) -> Answered
     ensures { λ r. ⌜ r ≡ record { answer = Refused x; state = s } ⌝ }
 {
     Answered {

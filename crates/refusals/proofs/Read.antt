@@ -1,30 +1,27 @@
 -- The verdict on what the code reads: a record and a word that may be none.
 use mathlib.Core.Path.{_≡_, refl, ap}
-use mathlib.Core.List.{List, _∷_}
+use mathlib.Core.List.{List, _++_}
 use Prim.Native.Nat.{ℕ}
 use lib.ListN.{getD}
 use borrow.Author.Tests.{leb-false}
 use Rattle.tables.specs.declared.State.{State}
 use Rattle.rules.specs.declared.event.Call.{Call}
 use Rattle.rules.specs.declared.event.Event.the-variants.{Call as CallEvent}
-use Rattle.rules.specs.declared.answer.Errno.the-variants.{ENXIO, EBADF}
 use Rattle.tables.specs.Sizes.{bytesPerProcess}
 use Rattle.tables.specs.Tables.{threadOf, world}
-use Rattle.rules.specs.Answers.{Row, _when_, first}
+use Rattle.rules.specs.Answers.{Row, first}
 use Rattle.rules.specs.Commands.{commandOf}
-use Rattle.rules.specs.Calls.{wrongMemory, brokenTables, callRows, differs}
+use Rattle.rules.specs.Calls.{firstRows, argumentRows, callRows, differs}
 use Rattle.rules.specs.Events.{refusals}
 use Rattle.commands.specs.Places.{threadPlace, wordPlace}
 use Rattle.commands.proofs.Places.{thread-there, word-there}
-use Rattle.rules.proofs.Rows.{Same, _then_, same-first}
+use Rattle.rules.proofs.Rows.{Same, _then_, same-behind, same-first}
 use Rattle.rules.proofs.Passed.{thread-process, thread-index, uaddr-inside}
 
 -- The verdict on the record t and the word i that the code reads: where the thread or the address does not exist, an earlier row refuses.
 abbrev pub rowsRead : Call → State → List ℕ → ℕ → ℕ → List Row
 rowsRead c s ws t i =
-    ENXIO when wrongMemory (world s ws)
-    ∷ EBADF when brokenTables (world s ws)
-    ∷ callRows c (threadOf s t .waiting) (s .clock) (s .count) (getD ws i 0)
+    firstRows (world s ws) ++ callRows c (threadOf s t .waiting) (s .clock) (s .count) (getD ws i 0)
 
 module _ (c : Call) (s : State) (ws : List ℕ) (t i : ℕ) (thread : t ≡ threadPlace (c .process) (c .index)) (word : i ≡ wordPlace (c .process) (c .uaddr)) where
   same-rows : Same (rowsRead c s ws t i) (refusals (CallEvent c) (world s ws))
@@ -37,13 +34,13 @@ module _ (c : Call) (s : State) (ws : List ℕ) (t i : ℕ) (thread : t ≡ thre
       let p = thread-process (c .process) (c .index) h3 in
       ap (λ u. threadOf s u .waiting) (thread-there _ _ thread p (thread-index (c .process) (c .index) h3)) then λ h4.
       refl then λ h5.
-      refl then λ h6.
+      same-behind (argumentRows k c) _ _
+      (refl then λ h6.
       refl then λ h7.
-      refl then λ h8.
-      ap (λ j. differs k c (getD ws j 0)) (word-there _ _ word p (leb-false bytesPerProcess (c .uaddr) (uaddr-inside k c h7))) then λ h9.
+      ap (λ j. differs k c (getD ws j 0)) (word-there _ _ word p (leb-false bytesPerProcess (c .uaddr) (uaddr-inside k c h6))) then λ h8.
+      refl then λ h9.
       refl then λ h10.
-      refl then λ h11.
-      tt
+      tt)
 
   pub verdict-is : first (rowsRead c s ws t i) ≡ first (refusals (CallEvent c) (world s ws))
   verdict-is = same-first (rowsRead c s ws t i) (refusals (CallEvent c) (world s ws)) same-rows

@@ -2,13 +2,14 @@
 ghost use mathlib.Core.Path.{_≡_};
 ghost use lib.ListN.{getD};
 ghost use Rattle.rules.specs.declared.event.Event.the-variants.{Call as CallEvent, Store, Clock, Interrupt};
-ghost use Rattle.rules.specs.Answers.{first};
+ghost use Rattle.rules.specs.Answers.{first, firstOr};
+ghost use Rattle.rules.specs.Calls.{firstRows};
 ghost use Rattle.rules.specs.Events.{refusals};
 ghost use Rattle.tables.specs.Tables.{world};
-ghost use Rattle.refusals.specs.Tested.{tested};
 use commands::thread_index;
 use commands::word_index;
 use rules::answer::Errno;
+use rules::answer::Reason;
 use rules::answer::Verdict;
 use rules::event::Call;
 use tables::PROCESS_BYTES;
@@ -17,13 +18,14 @@ use tables::State;
 use tables::WORD_BYTES;
 use tables::WORDS;
 use tables::check::tables_ok;
+use verdicts::invalid;
 use verdicts::no_thread;
 use verdicts::row;
 use verdicts::verdict_on;
 
 // The rows of the memory and the tables, before the rows below them.
 fn tested(s: State, words: &[u32], below: Verdict) -> Verdict
-    ensures { λ r. ⌜ r ≡ tested (world s (now (words .entry))) below ⌝ }
+    ensures { λ r. ⌜ r ≡ firstOr (firstRows (world s (now (words .entry)))) below ⌝ }
 {
     let sound = tables_ok(s);
     let v = row(Errno::EBADF, !sound, below);
@@ -52,7 +54,7 @@ pub fn of_store(s: State, words: &[u32], process: u8, address: u32, value: u32) 
     ensures { λ r. ⌜ r ≡ first (refusals (Store process address value) (world s (now (words .entry)))) ⌝ }
 {
     let v = row(Errno::EFAULT, PROCESS_BYTES <= address, Verdict::Pass);
-    let v = row(Errno::EINVAL, address % WORD_BYTES != 0, v);
+    let v = invalid(Reason::UaddrUnaligned, address % WORD_BYTES != 0, v);
     let v = row(Errno::ESRCH, PROCESSES <= process as usize, v);
     tested(s, words, v)
 }
@@ -60,7 +62,7 @@ pub fn of_store(s: State, words: &[u32], process: u8, address: u32, value: u32) 
 pub fn of_clock(s: State, words: &[u32], time: u64) -> Verdict
     ensures { λ r. ⌜ r ≡ first (refusals (Clock time) (world s (now (words .entry)))) ⌝ }
 {
-    let v = row(Errno::EINVAL, time < s.clock, Verdict::Pass);
+    let v = invalid(Reason::ClockBack, time < s.clock, Verdict::Pass);
     tested(s, words, v)
 }
 

@@ -18,6 +18,9 @@ pub mod Isolation
 pub mod Determined
 pub mod Alike
 pub mod Histories
+pub mod Arguments
+pub mod Before
+pub mod Reasons
 pub mod Numbers
 pub mod Slept
 pub mod Elsewhere

@@ -1,25 +1,30 @@
 -- What an event is answered, by the paper's numbers: the first row that applies, and else what the event does.
-use mathlib.Core.Path.{_≡_, refl, ap, _∙_}
+use mathlib.Core.Path.{_≡_, refl, sym, ap, _∙_}
 use mathlib.Core.List.{List, [], _∷_}
 use native.Mathlib.Nat.{add-zero}
 use lib.ListN.{length}
-use lib.IntN.{ℤ, pos}
+use lib.IntN.{ℤ, pos, negℤ}
 use Rattle.lists.proofs.Tests.{cases}
 use Rattle.rules.specs.declared.event.Command.{Command}
 use Rattle.rules.specs.declared.event.Command.the-variants.{Wait, Wake, Requeue, CmpRequeue, WakeOp, WaitBitset, WakeBitset, Unknown}
 use Rattle.rules.specs.declared.event.Call.{Call}
 use Rattle.rules.specs.declared.event.Event.{Event}
 use Rattle.rules.specs.declared.event.Event.the-variants.{Call as CallEvent, Store, Clock, Interrupt, Query}
+use Rattle.rules.specs.declared.answer.Reason.the-variants.{NoReason}
+use Rattle.rules.specs.declared.answer.Answer.{Answer}
+use Rattle.rules.specs.declared.answer.Answer.the-variants.{Asleep, Count, Refused, Waiting}
 use Rattle.tables.specs.Tables.{World, threadNumber, threadOf}
-use Rattle.rules.specs.Answers.{Row, Outcome, errnoNumber, answerNumbers, first, judged}
+use Rattle.rules.specs.Answers.{Row, Outcome, errnoNumber, answerNumbers, reasonOf, first, judged}
 use Rattle.rules.specs.Commands.{commandOf}
 use Rattle.rules.specs.Calls.{released, callRows, wait, wake, requeue, wakeOp, callEffect}
 use Rattle.rules.specs.Events.{refusals, clockEffect, interruptEffect, panel, effect, step}
-use Rattle.rules.specs.Numbers.{refuse, done, numbersOf}
+use Rattle.rules.specs.Numbers.{done, numbersOf}
+use Rattle.rules.specs.Before.{stepBefore, withoutReason}
+use Rattle.rules.proofs.Arguments.{byErrno, arguments-one}
+use Rattle.rules.proofs.Before.{as-before}
 
-abbrev pub refuseBy : List Row → List ℤ → List ℤ
-refuseBy [] below = below
-refuseBy (r ∷ rs) below = refuse (errnoNumber (r .errno)) (r .applies) (refuseBy rs below)
+abbrev refuseBy : List Row → List ℤ → List ℤ
+refuseBy rs below = byErrno (λ x. negℤ (pos (errnoNumber x)) ∷ []) rs below
 
 judged-number : (rs : List Row) (o : Outcome) (w : World) → answerNumbers (judged (first rs) o w .answer) ≡ refuseBy rs (answerNumbers (o .answer))
 judged-number [] o w = refl
@@ -42,7 +47,7 @@ call-done Unknown c w = refl
 
 effect-number : (e : Event) (w : World) → refuseBy (refusals e w) (answerNumbers (effect e w .answer)) ≡ numbersOf e w
 unfolding numbersOf refusals callRows effect clockEffect interruptEffect panel
-effect-number (CallEvent c) w = ap (refuseBy (refusals (CallEvent c) w)) (call-done (commandOf (c .op)) c w)
+effect-number (CallEvent c) w = rw (arguments-one (λ x. negℤ (pos (errnoNumber x)) ∷ []) (commandOf (c .op)) c _ _, call-done (commandOf (c .op)) c w)
 effect-number (Store p a v) w = refl
 effect-number (Clock now) w = refl
 effect-number (Interrupt p i) w = cases (threadOf (w .state) (threadNumber p i) .waiting) (λ e. rw e) (λ e. rw e)
@@ -50,3 +55,16 @@ effect-number (Query p) w = refl
 
 pub by-number : (e : Event) (w : World) → answerNumbers (step e w .answer) ≡ numbersOf e w
 by-number e w = step-number e w ∙ effect-number e w
+
+-- the rules before reasons gave the same numbers, and no reason
+plain-number : (a : Answer) → (answerNumbers (withoutReason a) ≡ answerNumbers a) × (reasonOf (withoutReason a) ≡ NoReason)
+plain-number Asleep = (refl, refl)
+plain-number (Count n) = (refl, refl)
+plain-number (Refused x) = (refl, refl)
+plain-number (Waiting v) = (refl, refl)
+
+pub before-numbers : (e : Event) (w : World) → (answerNumbers (stepBefore e w .answer) ≡ numbersOf e w) × (reasonOf (stepBefore e w .answer) ≡ NoReason)
+before-numbers e w =
+    let same = ap (λ (o : Outcome). o .answer) (as-before e w) in
+    let plain = plain-number (step e w .answer) in
+    (rw (sym same) (plain .0 ∙ by-number e w), rw (sym same) (plain .1))

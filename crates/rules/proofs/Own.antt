@@ -18,17 +18,17 @@ use Rattle.rules.specs.declared.event.Call.{Call}
 use Rattle.rules.specs.declared.event.Event.{Event}
 use Rattle.rules.specs.declared.event.Event.the-variants.{Call as CallEvent, Store, Clock, Interrupt, Query}
 use Rattle.rules.specs.declared.answer.Answer.the-variants.{Refused, Waiting}
-use Rattle.rules.specs.declared.answer.Errno.{Errno}
+use Rattle.rules.specs.declared.answer.Refusal.{Refusal}
 use Rattle.tables.specs.Sizes.{threads, threadsPerProcess}
 use Rattle.tables.specs.Tables.{expired, expiredSleepers, World, threadNumber, threadOf, arrivals, wordAt, endSleeps, withClock, withState, tablesOk}
 use Rattle.rules.specs.Answers.{Outcome, outcome}
 use Rattle.rules.specs.Commands.{commandOf, uses}
 use Rattle.rules.specs.WakeOp.{newWord}
-use Rattle.rules.specs.Calls.{wrongMemory, noThread, caller, secondCap, matches, candidates, released, moved, releasedSecond, wait, wake, requeue, wakeOp, callEffect, callRows, full}
+use Rattle.rules.specs.Calls.{wrongMemory, noThread, caller, secondCap, argumentRows, matches, candidates, released, moved, releasedSecond, wait, wake, requeue, wakeOp, callEffect, callRows, full}
 use Rattle.rules.specs.Events.{refusals, clockEffect, interruptEffect, bitsBelow, waitingSet, panel, effect, step}
 use Rattle.rules.specs.Claims.{Clear}
 use Rattle.rules.proofs.Commands.{by-command}
-use Rattle.rules.proofs.Rows.{Same, _then_, same-first, clear-pass, verdicts, step-refused, step-passed}
+use Rattle.rules.proofs.Rows.{Same, _then_, same-behind, same-first, clear-pass, verdicts, step-refused, step-passed}
 use Rattle.tables.proofs.Sound.{room}
 use Rattle.rules.proofs.Preserved.{Valid}
 use Rattle.rules.proofs.Passed.{Passed, clear-passed, caller-below, memory-right, sound-right, thread-process, thread-index, uaddr-inside, uaddr2-inside}
@@ -163,13 +163,13 @@ call-rows c w g =
     refl then λ h3.
     same-waiting p w g (c .index) (thread-index p (c .index) h3) then λ h4.
     refl then λ h5.
-    refl then λ h6.
+    same-behind (argumentRows (commandOf (c .op)) c) _ _
+    (refl then λ h6.
     refl then λ h7.
-    refl then λ h8.
-    (rw (view-word p w (c .uaddr) (uaddr-inside (commandOf (c .op)) c h7))) then λ h9.
-    (rw (view-state p w, view-clock p (w .state))) then λ h10.
-    room-too h3 h4 then λ h11.
-    tt
+    (rw (view-word p w (c .uaddr) (uaddr-inside (commandOf (c .op)) c h6))) then λ h8.
+    (rw (view-state p w, view-clock p (w .state))) then λ h9.
+    room-too h3 h4 then λ h10.
+    tt)
   where
     room-too : noThread (c .process) (c .index) ≡ false → threadOf (w .state) (caller c) .waiting ≡ false
         → full (w .state .count) ≡ full (view (c .process) w .state .count)
@@ -211,7 +211,7 @@ expired-view p now s =
 
 -- a step, where the tests and the effect are the same on the view
 module _ (p : ℕ) (e : Event) (w : World) (rows : Same (refusals e w) (refusals e (view p w))) where
-  by-rows : (P : Outcome → Outcome → Type 0) → ((x : Errno) → P (outcome (Refused x) w) (outcome (Refused x) (view p w)))
+  by-rows : (P : Outcome → Outcome → Type 0) → ((x : Refusal) → P (outcome (Refused x) w) (outcome (Refused x) (view p w)))
       → (Clear (refusals e w) → P (effect e w) (effect e (view p w))) → P (step e w) (step e (view p w))
   by-rows P refused passed =
       let same = same-first (refusals e w) (refusals e (view p w)) rows in

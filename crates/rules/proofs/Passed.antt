@@ -1,23 +1,23 @@
-use Rattle.rules.specs.Events.{refusals}
-use Rattle.rules.specs.Claims.{Clear}
 -- A call that no row of the table of answers refuses: what is then known of it.
 use mathlib.Core.Path.{_≡_, ap}
-use mathlib.Core.Bool.{Bool, true, false, not, _&&_, _||_}
+use mathlib.Core.Bool.{true, false, not, _&&_}
 use Prim.Native.Nat.{ℕ, _<_}
 use native.Mathlib.Omega.{arith}
 use lib.ListN.{length}
-use lib.Dec.{eqb, leb, ltb}
+use lib.Dec.{eqb, leb}
 use borrow.Author.Tests.{eqb-true, eq-eqb, leb-false, lt-leb, not-false}
 use Rattle.lists.proofs.Tests.{or-left, or-right, or-intro}
 use Rattle.rules.specs.declared.event.Command.{Command}
 use Rattle.rules.specs.declared.event.Call.{Call}
 use Rattle.rules.specs.declared.event.Event.the-variants.{Call as CallEvent}
-use Rattle.tables.specs.Sizes.{processes, threadsPerProcess, threads, memoryWords, maxCap}
+use Rattle.tables.specs.Sizes.{processes, threadsPerProcess, threads, memoryWords}
 use Rattle.tables.specs.Tables.{outside, World, threadOf, wordAt, aligned, tablesOk}
 use Rattle.rules.specs.Commands.{commandOf, notImplemented, isUnknown, bitSet, clockBit, uses}
 use Rattle.rules.specs.WakeOp.{undefinedOp}
-use Rattle.rules.specs.Calls.{wrongMemory, noProcess, noThread, caller, secondCap, badArgument, badAddress, isWakeOp, differs, late, callRows}
-use Rattle.rules.proofs.Rows.{_and_}
+use Rattle.rules.specs.Calls.{wrongMemory, noProcess, noThread, caller, argumentRows, badAddress, isWakeOp, differs, late, callRows}
+use Rattle.rules.specs.Events.{refusals}
+use Rattle.rules.specs.Claims.{Clear}
+use Rattle.rules.proofs.Rows.{clear-left, clear-right, clear-both, _and_}
 use Rattle.tables.proofs.Sound.{Sound, tables-sound, sound-tables, room}
 
 pub record Passed (k : Command) (c : Call) (w : World) : Type 0 where
@@ -28,7 +28,7 @@ pub record Passed (k : Command) (c : Call) (w : World) : Type 0 where
   pub runs : threadOf (w .state) (caller c) .waiting ≡ false
   pub known : isUnknown k ≡ false
   pub monotonic : eqb (bitSet (c .op) clockBit) 1 ≡ false
-  pub arguments : badArgument k c ≡ false
+  pub arguments : Clear (argumentRows k c)
   pub addresses : badAddress k c ≡ false
   pub defined : (isWakeOp k && undefinedOp (c .val3)) ≡ false
   pub equal : differs k c (wordAt w (c .process) (c .uaddr)) ≡ false
@@ -57,6 +57,8 @@ pub clear-passed : (c : Call) (w : World) → Clear (refusals (CallEvent c) w) �
 unfolding refusals callRows notImplemented
 clear-passed c w h =
     let op = h .1 .1 .1 .1 .0 in
+    let k = commandOf (c .op) in
+    let behind = clear-right (argumentRows k c) _ (h .1 .1 .1 .1 .1) in
     record {
       memory = memory-is w (h .0);
       sound = sound-of w (h .1 .0);
@@ -65,11 +67,11 @@ clear-passed c w h =
       runs = h .1 .1 .1 .0;
       known = or-left (isUnknown (commandOf (c .op))) (eqb (bitSet (c .op) clockBit) 1) op;
       monotonic = or-right (isUnknown (commandOf (c .op))) (eqb (bitSet (c .op) clockBit) 1) op;
-      arguments = h .1 .1 .1 .1 .1 .0;
-      addresses = h .1 .1 .1 .1 .1 .1 .0;
-      defined = h .1 .1 .1 .1 .1 .1 .1 .0;
-      equal = h .1 .1 .1 .1 .1 .1 .1 .1 .0;
-      ahead = h .1 .1 .1 .1 .1 .1 .1 .1 .1 .0;
+      arguments = clear-left (argumentRows k c) _ (h .1 .1 .1 .1 .1);
+      addresses = behind .0;
+      defined = behind .1 .0;
+      equal = behind .1 .1 .0;
+      ahead = behind .1 .1 .1 .0;
     }
 
 pub caller-below : (c : Call) → c .process < processes → c .index < threadsPerProcess → caller c < threads
@@ -84,47 +86,31 @@ passed-clear c w g =
     and or-intro (lt-leb processes (c .process) (g .process)) (lt-leb threadsPerProcess (c .index) (g .index))
     and g .runs
     and or-intro (g .known) (g .monotonic)
-    and g .arguments
-    and g .addresses
+    and clear-both (argumentRows (commandOf (c .op)) c) _ (g .arguments)
+    (g .addresses
     and g .defined
     and g .equal
     and g .ahead
     and lt-leb threads (w .state .count) (room (w .state) (g .sound) (caller c) (caller-below c (g .process) (g .index)) (g .runs))
-    and tt
+    and tt)
 
 -- what the argument rules tell
-module _ (k : Command) (c : Call) (h : badArgument k c ≡ false) where
-  abbrev caps : Bool
-  caps = uses k .cap && ltb maxCap (c .val) || uses k .second && ltb maxCap (secondCap c)
-
-  abbrev masks : Bool
-  masks = caps || uses k .mask && eqb (c .val3) 0
-
-  abbrev firsts : Bool
-  firsts = masks || not (aligned (c .uaddr))
-
-  abbrev seconds : Bool
-  seconds = firsts || uses k .second && not (aligned (c .uaddr2))
-
-  seconds-right : seconds ≡ false
-  unfolding badArgument
-  seconds-right = or-left seconds (uses k .moves && eqb (c .uaddr) (c .uaddr2)) h
-
-  firsts-right : firsts ≡ false
-  firsts-right = or-left firsts (uses k .second && not (aligned (c .uaddr2))) seconds-right
+module _ (k : Command) (c : Call) (h : Clear (argumentRows k c)) where
+  pub mask-given : uses k .mask ≡ true → eqb (c .val3) 0 ≡ false
+  unfolding argumentRows
+  mask-given e = rw e at (h .1 .1 .0)
 
   pub uaddr-aligned : aligned (c .uaddr) ≡ true
-  uaddr-aligned = not-false _ (or-right masks (not (aligned (c .uaddr))) firsts-right)
+  unfolding argumentRows
+  uaddr-aligned = not-false _ (h .1 .1 .1 .0)
 
   pub uaddr2-aligned : uses k .second ≡ true → aligned (c .uaddr2) ≡ true
-  uaddr2-aligned e = not-false _ (rw e at (or-right firsts (uses k .second && not (aligned (c .uaddr2))) seconds-right))
-
-  pub mask-given : uses k .mask ≡ true → eqb (c .val3) 0 ≡ false
-  mask-given e = rw e at (or-right caps (uses k .mask && eqb (c .val3) 0) (or-left masks (not (aligned (c .uaddr))) firsts-right))
+  unfolding argumentRows
+  uaddr2-aligned e = not-false _ (rw e at (h .1 .1 .1 .1 .0))
 
   pub addresses-apart : uses k .moves ≡ true → eqb (c .uaddr) (c .uaddr2) ≡ false
-  unfolding badArgument
-  addresses-apart e = rw e at (or-right seconds (uses k .moves && eqb (c .uaddr) (c .uaddr2)) h)
+  unfolding argumentRows
+  addresses-apart e = rw e at (h .1 .1 .1 .1 .1 .0)
 
 -- and the range of the addresses
 pub uaddr-inside : (k : Command) (c : Call) → badAddress k c ≡ false → outside (c .uaddr) ≡ false

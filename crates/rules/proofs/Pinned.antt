@@ -20,21 +20,26 @@ use Rattle.rules.specs.declared.event.Command.the-variants.{CmpRequeue}
 use Rattle.rules.specs.declared.event.Call.{Call}
 use Rattle.rules.specs.declared.event.Event.{Event}
 use Rattle.rules.specs.declared.event.Event.the-variants.{Call as CallEvent, Store, Clock, Interrupt, Query}
-use Rattle.rules.specs.declared.answer.Errno.{Errno}
+use Rattle.rules.specs.declared.answer.Reason.the-variants.{NoReason, FirstCap, SecondCap, MaskZero, UaddrUnaligned, Uaddr2Unaligned, SameAddress, ClockBack}
+use Rattle.rules.specs.declared.answer.Refusal.{Refusal}
+use Rattle.rules.specs.declared.answer.Panel.{Panel}
 use Rattle.rules.specs.declared.answer.Verdict.the-variants.{Refuse, Pass}
-use Rattle.rules.specs.declared.answer.Answer.the-variants.{Asleep, Count}
+use Rattle.rules.specs.declared.answer.Answer.the-variants.{Asleep, Count, Refused, Waiting}
 use Rattle.tables.specs.Sizes.{processes, threadsPerProcess, threads, noEntry, wordsPerProcess, bytesPerProcess, memoryWords, maxCap}
 use Rattle.tables.specs.Tables.{World, world, fresh, expired, threadNumber, processOf, threadOf, arrivals, tablesOk, movedTo, wordAt}
-use Rattle.rules.specs.Answers.{Row, first, answerNumbers, lastNumber}
-use Rattle.rules.specs.Commands.{commandOf}
+use Rattle.rules.specs.Answers.{Row, first, reasonNumber, answerNumbers, reasonOf, lastNumber}
+use Rattle.rules.specs.Commands.{commandOf, numbered, uses}
 use Rattle.rules.specs.Calls.{caller}
 use Rattle.rules.specs.Events.{step}
+use Rattle.rules.specs.Numbers.{numbersOf}
+use Rattle.rules.specs.Before.{stepBefore}
 use Rattle.rules.specs.History.{start, final, answers, isClock, belongs, keptFor, entriesOf, answersTo}
 use Rattle.rules.specs.Claims.{FirstOf, Clear, Sleeps, Took, Takes, wokenBy, movedBy, woke, shifted, countsMoves, SameSleepers, NamedAlike, before, after, asleepThere, Enters, sleptThrough, Since, Alike}
-use Rattle.rules.specs.Cases.{Case, sleepers, endedFrom, given, Share, mixed, shareOf, Unsound, each, unsoundGiven}
+use Rattle.rules.specs.Cases.{Case, sleepers, endedFrom, given, Reasoned, reasonedAs, Share, mixed, shareOf, Unsound, each, unsoundGiven}
 use Rattle.tables.proofs.Sound.{tables-sound}
 use Rattle.rules.proofs.Rows.{first-of, of-first, pass-clear, clear-pass}
 use Rattle.rules.proofs.Preserved.{Valid}
+use Rattle.rules.proofs.Numbers as Numbers′
 use Rattle.rules.proofs.Taken as Taken
 use Rattle.rules.proofs.Fate.{fate}
 use Rattle.rules.proofs.Determined as Determined
@@ -112,11 +117,31 @@ pub clock-kept : (p now : ℕ) (g : List Event) → keptFor p (g ++ Clock now �
 clock-kept p now g = kept-last p g (Clock now)
 
 -- Refusals: the first row that applies, and no row.
-pub first-exactly : (x : Errno) (rs : List Row) → FirstOf x rs ↔ (first rs ≡ Refuse x)
+pub first-exactly : (x : Refusal) (rs : List Row) → FirstOf x rs ↔ (first rs ≡ Refuse x)
 first-exactly x rs = (of-first x rs, first-of x rs)
 
 pub clear-exactly : (rs : List Row) → Clear rs ↔ (first rs ≡ Pass)
 clear-exactly rs = (clear-pass rs, pass-clear rs)
+
+-- Reasons by their numbers, and which commands use the arguments that they speak of, by theirs.
+pub reason-numbers : map reasonNumber (NoReason ∷ FirstCap ∷ SecondCap ∷ MaskZero ∷ UaddrUnaligned ∷ Uaddr2Unaligned ∷ SameAddress ∷ ClockBack ∷ [])
+    ≡ 0 ∷ 1 ∷ 2 ∷ 3 ∷ 4 ∷ 5 ∷ 6 ∷ 7 ∷ []
+reason-numbers = refl
+
+pub arguments-used : let commands : List ℕ = 0 ∷ 1 ∷ 3 ∷ 4 ∷ 5 ∷ 9 ∷ 10 ∷ [] in
+    (filter (λ n. uses (numbered n) .cap) commands ≡ 1 ∷ 3 ∷ 4 ∷ 5 ∷ 10 ∷ [])
+    × (filter (λ n. uses (numbered n) .second) commands ≡ 3 ∷ 4 ∷ 5 ∷ [])
+    × (filter (λ n. uses (numbered n) .mask) commands ≡ 9 ∷ 10 ∷ [])
+    × (filter (λ n. uses (numbered n) .moves) commands ≡ 3 ∷ 4 ∷ [])
+arguments-used = (refl, refl, refl, refl)
+
+pub reason-beside : (x : Refusal) (n : ℕ) (v : Panel)
+    → (reasonOf (Refused x) ≡ x .reason) × (reasonOf Asleep ≡ NoReason) × (reasonOf (Count n) ≡ NoReason) × (reasonOf (Waiting v) ≡ NoReason)
+reason-beside x n v = (refl, refl, refl, refl)
+
+-- The rules before reasons answered by document 01's numbers, and gave no reason.
+pub before-numbers : (e : Event) (w : World) → (answerNumbers (stepBefore e w .answer) ≡ numbersOf e w) × (reasonOf (stepBefore e w .answer) ≡ NoReason)
+before-numbers = Numbers′.before-numbers
 
 -- Wakes and requeues: what was taken fixes every record and the order of the list afterwards,
 pub took-fixes : {a : LastAnswer} {out on : List ℕ} {target : ℕ} {s u v : State} → Took a out on target s u → Took a out on target s v
@@ -263,6 +288,10 @@ case-given r = refl
 pub share-given : (s : Share) → let w = start (replicate memoryWords 0) in
     shareOf s ≡ record { process = s .process; kept = keptFor (s .process) mixed; answers = map answerNumbers (answersTo (s .process) mixed w) }
 share-given s = refl
+
+pub reasoned-given : (r : Reasoned) → let a = step (r .event) (step (Clock 5) (start (replicate memoryWords 0)) .world) .answer in
+    reasonedAs r ≡ record { event = r .event; numbers = answerNumbers a; reason = reasonNumber (reasonOf a) }
+reasoned-given r = refl
 
 pub unsound-given : (u : Unsound) → unsoundGiven u ≡ record { world = u .world; answers = map answerNumbers (answers each (u .world)) }
 unsound-given u = refl

@@ -8,7 +8,7 @@ use Rattle.rules.specs.declared.event.Command.{Command}
 use Rattle.rules.specs.declared.event.Call.{Call}
 use Rattle.rules.specs.declared.event.Event.{Event}
 use Rattle.rules.specs.declared.event.Event.the-variants.{Call as CallEvent, Store, Clock, Interrupt, Query}
-use Rattle.rules.specs.declared.answer.Errno.{Errno}
+use Rattle.rules.specs.declared.answer.Refusal.{Refusal}
 use Rattle.rules.specs.declared.answer.Verdict.the-variants.{Refuse}
 use Rattle.rules.specs.declared.answer.Answer.the-variants.{Asleep, Count, Refused}
 use Rattle.tables.specs.Tables.{World, threadNumber, threadOf}
@@ -40,7 +40,7 @@ granted (Clock now) w h = refl
 granted (Interrupt p i) w h = cases (threadOf (w .state) (threadNumber p i) .waiting) (λ e. rw e) (λ e. rw e)
 granted (Query p) w h = refl
 
-pub refused-row : (e : Event) (w : World) (x : Errno) → step e w .answer ≡ Refused x → first (refusals e w) ≡ Refuse x
+pub refused-row : (e : Event) (w : World) (x : Refusal) → step e w .answer ≡ Refused x → first (refusals e w) ≡ Refuse x
 refused-row e w x h = verdicts e w
     (λ y r. let same : y ≡ x = cc (step-refused e w y r) in r ∙ ap Refuse same)
     (λ r. clash (isRefused (step e w .answer)) (cc) (cc (step-clear e w r, granted e w r)))

@@ -1,38 +1,51 @@
 -- The table of answers: the first row that applies, tables whose rows agree, and steps that no row refuses.
 use mathlib.Core.Path.{_≡_, refl, sym, ap}
-use mathlib.Core.Bool.{false}
+use mathlib.Core.Bool.{false, cond}
 use mathlib.Core.List.{List, [], _∷_, _++_}
 use Prim.Native.Nat.{ℕ}
 use Rattle.lists.proofs.Tests.{cases, never}
-use Rattle.rules.specs.declared.answer.Errno.{Errno}
+use Rattle.rules.specs.declared.answer.Refusal.{Refusal}
 use Rattle.rules.specs.declared.answer.Verdict.{Verdict}
 use Rattle.rules.specs.declared.answer.Verdict.the-variants.{Refuse, Pass}
 use Rattle.rules.specs.declared.answer.Answer.the-variants.{Count, Refused}
 use Rattle.rules.specs.declared.event.Event.{Event}
 use Rattle.tables.specs.Tables.{World}
-use Rattle.rules.specs.Answers.{Row, first, outcome, judged}
+use Rattle.rules.specs.Answers.{Row, first, firstOr, outcome, judged}
 use Rattle.rules.specs.Calls.{firstRows}
 use Rattle.rules.specs.Events.{ownRows, isQuery, refusals, effect, step}
 use Rattle.rules.specs.Claims.{FirstOf, here, later, Clear}
 
-pub not-pass {ℓ} : {P : Type ℓ} {x : Errno} → Refuse x ≡ Pass → P
+pub not-pass {ℓ} : {P : Type ℓ} {x : Refusal} → Refuse x ≡ Pass → P
 not-pass e = never (cc)
 
-pub first-of : (x : Errno) (rs : List Row) → first rs ≡ Refuse x → FirstOf x rs
+pub first-of : (x : Refusal) (rs : List Row) → first rs ≡ Refuse x → FirstOf x rs
 first-of x [] h = not-pass (sym h)
 first-of x (r ∷ rs) h = cases (r .applies) (λ e. here e (cc)) (λ e. later e (first-of x rs (cc)))
 
-pub of-first : (x : Errno) (rs : List Row) → FirstOf x rs → first rs ≡ Refuse x
+pub of-first : (x : Refusal) (rs : List Row) → FirstOf x rs → first rs ≡ Refuse x
 of-first x (r ∷ rs) (here e n) = cc
 of-first x (r ∷ rs) (later e f) = cc (of-first x rs f)
 
 pub pass-clear : (rs : List Row) → first rs ≡ Pass → Clear rs
 pass-clear [] h = tt
-pass-clear (r ∷ rs) h = cases (r .applies) (λ e. not-pass {x = r .errno} (cc)) (λ e. (e, pass-clear rs (cc)))
+pass-clear (r ∷ rs) h = cases (r .applies) (λ e. not-pass {x = r .refusal} (cc)) (λ e. (e, pass-clear rs (cc)))
 
 pub clear-pass : (rs : List Row) → Clear rs → first rs ≡ Pass
 clear-pass [] h = refl
 clear-pass (r ∷ rs) h = cc (h .0, clear-pass rs (h .1))
+
+-- two tables, one before the other, of which no row applies
+pub clear-left : (rs qs : List Row) → Clear (rs ++ qs) → Clear rs
+clear-left [] qs h = tt
+clear-left (r ∷ rs) qs h = (h .0, clear-left rs qs (h .1))
+
+pub clear-right : (rs qs : List Row) → Clear (rs ++ qs) → Clear qs
+clear-right [] qs h = h
+clear-right (r ∷ rs) qs h = clear-right rs qs (h .1)
+
+pub clear-both : (rs qs : List Row) → Clear rs → Clear qs → Clear (rs ++ qs)
+clear-both [] qs g h = h
+clear-both (r ∷ rs) qs g h = (g .0, clear-both rs qs (g .1) h)
 
 -- A table of which no row applies, one row to a line: this row does not apply, and neither do the next.
 infixr 30 _and_
@@ -40,13 +53,21 @@ pub _and_ : {A B : Type 0} → A → B → A × B
 a and b = (a, b)
 
 -- rows before others: the first of them that applies answers, and where none does, the others answer
-pub refused-before : (rs qs : List Row) (x : Errno) → first rs ≡ Refuse x → first (rs ++ qs) ≡ Refuse x
+pub refused-before : (rs qs : List Row) (x : Refusal) → first rs ≡ Refuse x → first (rs ++ qs) ≡ Refuse x
 refused-before [] qs x h = not-pass (sym h)
 refused-before (r ∷ rs) qs x h = cases (r .applies) (λ e. cc) (λ e. cc (refused-before rs qs x (cc)))
 
 pub passed-before : (rs qs : List Row) → first rs ≡ Pass → first (rs ++ qs) ≡ first qs
 passed-before [] qs h = refl
-passed-before (r ∷ rs) qs h = cases (r .applies) (λ e. not-pass {x = r .errno} (cc)) (λ e. cc (passed-before rs qs (cc)))
+passed-before (r ∷ rs) qs h = cases (r .applies) (λ e. not-pass {x = r .refusal} (cc)) (λ e. cc (passed-before rs qs (cc)))
+
+pub first-or : (rs qs : List Row) → firstOr rs (first qs) ≡ first (rs ++ qs)
+first-or [] qs = refl
+first-or (r ∷ rs) qs = ap (cond (r .applies) (Refuse (r .refusal))) (first-or rs qs)
+
+pub clear-or : (rs : List Row) (below : Verdict) → Clear rs → firstOr rs below ≡ below
+clear-or [] below h = refl
+clear-or (r ∷ rs) below h = rw (h .0) (clear-or rs below (h .1))
 
 -- the rows of an event that is no panel query
 pub all-rows : (e : Event) (w : World) → isQuery e ≡ false → refusals e w ≡ firstRows w ++ ownRows e w
@@ -58,12 +79,17 @@ abbrev pub Same : List Row → List Row → Type 0
 Same [] [] = Unit {0}
 Same [] (q ∷ qs) = ⊥
 Same (r ∷ rs) [] = ⊥
-Same (r ∷ rs) (q ∷ qs) = (r .errno ≡ q .errno) × (r .applies ≡ q .applies) × (r .applies ≡ false → Same rs qs)
+Same (r ∷ rs) (q ∷ qs) = (r .refusal ≡ q .refusal) × (r .applies ≡ q .applies) × (r .applies ≡ false → Same rs qs)
 
 -- Two tables that agree, one row to a line: the tests of this row agree, then, where it does not apply, those of the next.
 infixr 30 _then_
-pub _then_ : {x : Errno} {A B : Type 0} → A → B → (x ≡ x) × A × B
+pub _then_ : {x : Refusal} {A B : Type 0} → A → B → (x ≡ x) × A × B
 a then b = (refl, a, b)
+
+-- tables that agree, behind the same rows
+pub same-behind : (rs qs us : List Row) → Same qs us → Same (rs ++ qs) (rs ++ us)
+same-behind [] qs us h = h
+same-behind (r ∷ rs) qs us h = refl then λ e. same-behind rs qs us h
 
 pub same-first : (rs qs : List Row) → Same rs qs → first rs ≡ first qs
 same-first [] [] h = refl
@@ -73,7 +99,7 @@ same-first (r ∷ rs) (q ∷ qs) h =
     cases (r .applies) (λ e. cc (h .0, h .1)) (λ e. cc (h .1, same-first rs qs (h .2 e)))
 
 -- a step that a row refuses, and one that none does
-pub step-refused : (e : Event) (w : World) (x : Errno) → first (refusals e w) ≡ Refuse x → step e w ≡ outcome (Refused x) w
+pub step-refused : (e : Event) (w : World) (x : Refusal) → first (refusals e w) ≡ Refuse x → step e w ≡ outcome (Refused x) w
 unfolding step
 step-refused e w x h = ap (λ v. judged v (effect e w) w) h
 
@@ -85,7 +111,7 @@ pub step-clear : (e : Event) (w : World) → Clear (refusals e w) → step e w �
 step-clear e w h = step-passed e w (clear-pass (refusals e w) h)
 
 -- by cases, on what the table of answers says of an event
-pub verdicts {ℓ} : {P : Type ℓ} (e : Event) (w : World) → ((x : Errno) → first (refusals e w) ≡ Refuse x → P)
+pub verdicts {ℓ} : {P : Type ℓ} (e : Event) (w : World) → ((x : Refusal) → first (refusals e w) ≡ Refuse x → P)
     → (Clear (refusals e w) → P) → P
 verdicts {P = P} e w refused passed = go (first (refusals e w)) refl
   where

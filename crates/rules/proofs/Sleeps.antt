@@ -14,11 +14,11 @@ use Rattle.tables.specs.Sizes.{wordBytes, bytesPerProcess}
 use Rattle.tables.specs.Tables.{World, wordAt, withState, fallAsleep}
 use Rattle.rules.specs.Commands.{commandOf, isUnknown, bitSet, clockBit, uses}
 use Rattle.rules.specs.WakeOp.{undefinedOp}
-use Rattle.rules.specs.Calls.{caller, timeoutGiven, deadlineOf, badArgument, badAddress, isWakeOp, differs, late, wait, wake, requeue, wakeOp, callEffect}
+use Rattle.rules.specs.Calls.{caller, timeoutGiven, deadlineOf, argumentRows, badAddress, isWakeOp, differs, late, wait, wake, requeue, wakeOp, callEffect}
 use Rattle.rules.specs.Events.{refusals, effect, step}
-use Rattle.rules.specs.Claims.{IsWait, Sleeps, sleepsBy}
+use Rattle.rules.specs.Claims.{Clear, IsWait, Sleeps, sleepsBy}
 use Rattle.rules.proofs.Commands.{by-command}
-use Rattle.rules.proofs.Rows.{verdicts, step-refused, step-clear}
+use Rattle.rules.proofs.Rows.{_and_, verdicts, step-refused, step-clear}
 use Rattle.tables.proofs.Sound.{tables-sound, sound-tables}
 use Rattle.rules.proofs.Passed.{Passed, clear-passed, passed-clear, uaddr-aligned, mask-given, uaddr-inside}
 
@@ -61,11 +61,13 @@ module _ (k : Command) (c : Call) (w : World) (i : IsWait k) where
       (λ g. rw (wait-deadline k i, g, lt-leb due (w .state .clock) (h g)))
       (λ g. rw (wait-deadline k i, g))
 
-  arguments-of : c .uaddr % wordBytes ≡ 0 → (k ≡ WaitBitset → c .val3 ≡ 0 → ⊥) → badArgument k c ≡ false
-  unfolding badArgument
-  arguments-of al m = by-cases i
-      (λ e. rw (e, eq-eqb (c .uaddr % wordBytes) 0 al))
-      (λ e. rw (e, eq-eqb (c .uaddr % wordBytes) 0 al, ne-eqb (c .val3) 0 (m e)))
+  arguments-of : c .uaddr % wordBytes ≡ 0 → (k ≡ WaitBitset → c .val3 ≡ 0 → ⊥) → Clear (argumentRows k c)
+  unfolding argumentRows
+  arguments-of al m =
+      let off = eq-eqb (c .uaddr % wordBytes) 0 al in
+      by-cases i
+      (λ e. (rw e) and (rw e) and (rw e) and (rw off) and (rw e) and (rw e) and tt)
+      (λ e. (rw e) and (rw e) and (rw (e, ne-eqb (c .val3) 0 (m e))) and (rw off) and (rw e) and (rw e) and tt)
 
   addresses-of : c .uaddr < bytesPerProcess → badAddress k c ≡ false
   unfolding badAddress

@@ -6,6 +6,7 @@ use mathlib.Core.List.{List, [], _∷_, _++_, map}
 use mathlib.Core.Logic.{_⊎_, inl, inr, _↔_}
 use Prim.Native.Nat.{ℕ, _+_, _-_, _≤_, _<_, min}
 use native.Mathlib.Omega.{arith}
+use lib.IntN.{pos, negℤ}
 use lib.ListN.{length, take, drop}
 use Rattle.lists.specs.Lists.{filter, elem, without, countBelow}
 use Rattle.lists.proofs.Tests.{by-cases, clash}
@@ -16,25 +17,30 @@ use Rattle.rules.specs.declared.event.Command.the-variants.{Wake}
 use Rattle.rules.specs.declared.event.Call.{Call}
 use Rattle.rules.specs.declared.event.Event.{Event}
 use Rattle.rules.specs.declared.event.Event.the-variants.{Call as CallEvent, Clock, Interrupt}
-use Rattle.rules.specs.declared.answer.Errno.{Errno}
+use Rattle.rules.specs.declared.answer.Reason.{Reason}
+use Rattle.rules.specs.declared.answer.Reason.the-variants.{NoReason}
+use Rattle.rules.specs.declared.answer.Refusal.{Refusal}
 use Rattle.rules.specs.declared.answer.Answer.the-variants.{Asleep, Count, Refused}
 use Rattle.tables.specs.Sizes.{threads, bytesPerProcess, memoryWords}
 use Rattle.tables.specs.Tables.{World, threadNumber, processOf, wordAt, ended, threadOf, arrivals, sleepsAt, queue, expired, expiredSleepers, tablesOk, withState, fallAsleep}
-use Rattle.rules.specs.Answers.{asleepNumber, answerNumbers, outcome}
+use Rattle.rules.specs.Answers.{asleepNumber, reasonNumber, answerNumbers, reasonOf, outcome}
 use Rattle.rules.specs.Commands.{commandOf}
 use Rattle.rules.specs.WakeOp.{compares}
 use Rattle.rules.specs.Calls.{caller, secondCap, matches, candidates, released, moved, releasedSecond}
 use Rattle.rules.specs.Events.{refusals, effect, step}
 use Rattle.rules.specs.Numbers.{numbersOf}
+use Rattle.rules.specs.Before.{stepBefore, withoutReason}
 use Rattle.rules.specs.History.{start, final, keptFor, answersTo}
-use Rattle.rules.specs.Claims.{FirstOf, Clear, Sleeps, sleepsBy, Took, Takes, wokenCount, shiftedCount, countsMoves, NamedAlike, Fate, asleepThere, sleptThrough, Since, Alike}
+use Rattle.rules.specs.Claims.{FirstOf, Clear, Fault, Sleeps, sleepsBy, Took, Takes, wokenCount, shiftedCount, countsMoves, NamedAlike, Fate, asleepThere, sleptThrough, Since, Alike}
 use Rattle.rules.proofs.Rows.{first-of, of-first, verdicts, step-refused, step-clear}
-use Rattle.rules.specs.Cases.{twelve, further, given, shares, shareOf, unsounds, unsoundGiven}
+use Rattle.rules.specs.Cases.{twelve, further, given, reasoned, reasonedAs, shares, shareOf, unsounds, unsoundGiven}
 use Rattle.rules.proofs.Cases as Cases
 use Rattle.tables.proofs.Sound.{tables-sound, sound-tables, none-overdue}
 use Rattle.rules.proofs.Refused.{refused-row}
 use Rattle.rules.proofs.Numbers.{by-number}
 use Rattle.rules.proofs.Preserved.{step-valid, final-valid, start-valid}
+use Rattle.rules.proofs.Before as Before
+use Rattle.rules.proofs.Reasons as Reasons
 use Rattle.rules.proofs.Sleeps as Sleeps′
 use Rattle.rules.proofs.Taken as Taken
 use Rattle.rules.proofs.Order as Order
@@ -49,25 +55,44 @@ use Rattle.rules.proofs.Isolation.{answers-view, final-view, start-alik
 -- "Every call, store, clock event, interrupt, query .. is answered": it is refused by the first row that applies and changes nothing,
 -- or no row applies and it does what its rule says.
 pub refused-or-done : (e : Event) (w : World)
-    → ((x : Errno) × FirstOf x (refusals e w) × (step e w ≡ outcome (Refused x) w)) ⊎ (Clear (refusals e w) × (step e w ≡ effect e w))
+    → ((x : Refusal) × FirstOf x (refusals e w) × (step e w ≡ outcome (Refused x) w)) ⊎ (Clear (refusals e w) × (step e w ≡ effect e w))
 refused-or-done e w = verdicts e w
     (λ x h. inl (x, first-of x (refusals e w) h, step-refused e w x h))
     (λ h. inr (h, step-clear e w h))
 
 -- "A refusal gives the one answer that document 01 fixes": that of the first row that applies, exactly when there is one.
-pub refused-exactly : (e : Event) (w : World) (x : Errno) → (step e w .answer ≡ Refused x) ↔ FirstOf x (refusals e w)
+pub refused-exactly : (e : Event) (w : World) (x : Refusal) → (step e w .answer ≡ Refused x) ↔ FirstOf x (refusals e w)
 refused-exactly e w x = (
   (λ h. first-of x (refusals e w) (refused-row e w x h)),
   (λ f. ap (λ o. o .answer) (step-refused e w x (of-first x (refusals e w) f))),
 )
 
 -- "and the words, the thread records, the arrival list and the clock stay as they were"
-pub refusal-leaves-all : (e : Event) (w : World) (x : Errno) → step e w .answer ≡ Refused x → step e w .world ≡ w
+pub refusal-leaves-all : (e : Event) (w : World) (x : Refusal) → step e w .answer ≡ Refused x → step e w .world ≡ w
 refusal-leaves-all e w x h = ap (λ o. o .world) (step-refused e w x (refused-row e w x h))
 
 -- What every event is answered, by the paper's own numbers: its tables row by row, and else "asleep", a count, or the panel's three.
 pub answers-by-number : (e : Event) (w : World) → answerNumbers (step e w .answer) ≡ numbersOf e w
 answers-by-number = by-number
+
+-- Request (i), reasons.
+
+-- "Beside the number, give a reason: 1 first cap, 2 second cap, 3 mask zero, 4 uaddr not aligned (also a store's address), 5 uaddr2 not aligned,
+-- 6 same address twice, 7 clock went back": each comes exactly when the answer is -22, the fault is there, and no lower one; "Where several
+-- apply, the lowest is given."
+pub reason-exactly : (e : Event) (w : World) (r : Reason) → (r ≡ NoReason → ⊥)
+    → (reasonOf (step e w .answer) ≡ r)
+    ↔ ((answerNumbers (step e w .answer) ≡ negℤ (pos 22) ∷ []) × Fault w r e × ((q : Reason) → reasonNumber q < reasonNumber r → Fault w q e → ⊥))
+reason-exactly = Reasons.reason-exactly
+
+-- "0 with every other answer"
+pub reason-none : (e : Event) (w : World) → (reasonOf (step e w .answer) ≡ NoReason) ↔ (answerNumbers (step e w .answer) ≡ negℤ (pos 22) ∷ [] → ⊥)
+reason-none = Reasons.reason-none
+
+-- "The number, its place in the order and what it leaves stay as they are": reasons taken away, an event is answered and leaves what the rules
+-- before gave, for every event, any tables and words.
+pub as-before : (e : Event) (w : World) → outcome (withoutReason (step e w .answer)) (step e w .world) ≡ stepBefore e w
+as-before = Before.as-before
 
 -- Demand 2, waits.
 
@@ -215,6 +240,10 @@ twelve-cases = Cases.as-document-01-says
 pub further-cases : map given further ≡ further
 further-cases = Cases.further-given
 
+-- each reason alone and each pair of them,
+pub reasons-of-cases : map reasonedAs reasoned ≡ reasoned
+reasons-of-cases = Cases.reasons-given
+
 -- what each process is answered and what is kept for it of one history of several,
 pub mixed-history : map shareOf shares ≡ shares
 mixed-history = Cases.shares-given
@@ -241,7 +270,7 @@ rules-kept-always words n h =
 -- Demand 3, for any number p: "Take any of the eight processes and any two histories .. Both start from the fresh state over
 -- full-length memory, with equal words for that process. .. Strike from both the events that name another process. If equal lists
 -- are left, clock events included, then, whatever the other processes did, that process's events got the same answers in the same
--- order .. At the end its words, its thread records and the order of its sleepers are the same too."
+-- order .. At the end its words, its thread records and the order of its sleepers are the same too." An answer has its reason in it.
 pub isolation : (p : ℕ) (us vs : List ℕ) → length us ≡ memoryWords → length vs ≡ memoryWords
     → ((a : ℕ) → a < bytesPerProcess → wordAt (start us) p a ≡ wordAt (start vs) p a)
     → (g h : List Event) → keptFor p g ≡ keptFor p h

@@ -7,6 +7,9 @@ use Rattle.tables.specs.declared.LastAnswer.{LastAnswer}
 use Rattle.tables.specs.declared.LastAnswer.the-variants.{NoneYet, Woken, TimedOut, Interrupted}
 use Rattle.rules.specs.declared.answer.Errno.{Errno}
 use Rattle.rules.specs.declared.answer.Errno.the-variants.{ENXIO, EBADF, ESRCH, EBUSY, ENOSYS, EINVAL, EFAULT, EAGAIN, ETIMEDOUT, ENOMEM}
+use Rattle.rules.specs.declared.answer.Reason.{Reason}
+use Rattle.rules.specs.declared.answer.Reason.the-variants.{NoReason, FirstCap, SecondCap, MaskZero, UaddrUnaligned, Uaddr2Unaligned, SameAddress, ClockBack}
+use Rattle.rules.specs.declared.answer.Refusal.{Refusal}
 use Rattle.rules.specs.declared.answer.Verdict.{Verdict}
 use Rattle.rules.specs.declared.answer.Verdict.the-variants.{Refuse, Pass}
 use Rattle.rules.specs.declared.answer.Answer.{Answer}
@@ -27,6 +30,18 @@ errnoNumber EAGAIN = 11
 errnoNumber ETIMEDOUT = 110
 errnoNumber ENOMEM = 12
 
+-- "1 first cap, 2 second cap, 3 mask zero, 4 uaddr not aligned (also a store's address), 5 uaddr2 not aligned, 6 same address twice,
+-- 7 clock went back; 0 with every other answer"
+abbrev pub reasonNumber : Reason → ℕ
+reasonNumber NoReason = 0
+reasonNumber FirstCap = 1
+reasonNumber SecondCap = 2
+reasonNumber MaskZero = 3
+reasonNumber UaddrUnaligned = 4
+reasonNumber Uaddr2Unaligned = 5
+reasonNumber SameAddress = 6
+reasonNumber ClockBack = 7
+
 -- To a host, "asleep" is this number.
 abbrev pub asleepNumber : ℕ
 asleepNumber = 2147483647
@@ -35,8 +50,15 @@ asleepNumber = 2147483647
 abbrev pub answerNumbers : Answer → List ℤ
 answerNumbers Asleep = pos asleepNumber ∷ []
 answerNumbers (Count n) = pos n ∷ []
-answerNumbers (Refused x) = negℤ (pos (errnoNumber x)) ∷ []
+answerNumbers (Refused x) = negℤ (pos (errnoNumber (x .errno))) ∷ []
 answerNumbers (Waiting v) = pos (v .waiting) ∷ pos (v .count) ∷ pos (v .lowest) ∷ []
+
+-- "Beside the number, give a reason"
+abbrev pub reasonOf : Answer → Reason
+reasonOf Asleep = NoReason
+reasonOf (Count n) = NoReason
+reasonOf (Refused x) = x .reason
+reasonOf (Waiting v) = NoReason
 
 -- "The last answer is 1 until a sleep ends, then 0 (woken), -110 or -4."
 abbrev pub lastNumber : LastAnswer → ℤ
@@ -45,19 +67,41 @@ lastNumber Woken = pos 0
 lastNumber TimedOut = negℤ (pos (errnoNumber ETIMEDOUT))
 lastNumber Interrupted = negℤ (pos 4)
 
--- A row of the table of answers: the error, and whether what it is given for applies.
+-- A row of the table of answers: the error with its reason, and whether what it is given for applies.
 pub record Row : Type 0 where
-  pub errno : Errno
+  pub refusal : Refusal
   pub applies : Bool
+
+infix 80 _because_
+abbrev pub _because_ : Errno → Reason → Refusal
+x because r = record { errno = x; reason = r }
+
+-- an error that has no reason beside it: "0 with every other answer"
+abbrev pub plain : Errno → Refusal
+plain x = x because NoReason
+
+infix 70 _given_
+abbrev pub _given_ : Refusal → Bool → Row
+x given b = record { refusal = x; applies = b }
 
 infix 70 _when_
 abbrev pub _when_ : Errno → Bool → Row
-x when b = record { errno = x; applies = b }
+x when b = plain x given b
 
 -- "Tests come in this order; the first that applies answers."
 abbrev pub first : List Row → Verdict
 first [] = Pass
-first (r ∷ rs) = cond (r .applies) (Refuse (r .errno)) (first rs)
+first (r ∷ rs) = cond (r .applies) (Refuse (r .refusal)) (first rs)
+
+-- rows before a verdict: the first that applies answers, and where none does, the verdict stands
+abbrev pub firstOr : List Row → Verdict → Verdict
+firstOr [] below = below
+firstOr (r ∷ rs) below = cond (r .applies) (Refuse (r .refusal)) (firstOr rs below)
+
+-- the reason of a verdict
+abbrev pub reasonIn : Verdict → Reason
+reasonIn (Refuse x) = x .reason
+reasonIn Pass = NoReason
 
 -- What an event leaves: its answer, and the tables and words.
 pub record Outcome : Type 0 where

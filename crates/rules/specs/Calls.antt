@@ -12,10 +12,11 @@ use Rattle.rules.specs.declared.event.Command.{Command}
 use Rattle.rules.specs.declared.event.Command.the-variants.{Wait, Wake, Requeue, CmpRequeue, WakeOp, WaitBitset, WakeBitset, Unknown}
 use Rattle.rules.specs.declared.event.Call.{Call}
 use Rattle.rules.specs.declared.answer.Errno.the-variants.{ENXIO, EBADF, ESRCH, EBUSY, ENOSYS, EINVAL, EFAULT, EAGAIN, ETIMEDOUT, ENOMEM}
+use Rattle.rules.specs.declared.answer.Reason.the-variants.{FirstCap, SecondCap, MaskZero, UaddrUnaligned, Uaddr2Unaligned, SameAddress}
 use Rattle.rules.specs.declared.answer.Answer.the-variants.{Asleep, Count, Refused}
 use Rattle.tables.specs.Sizes.{processes, threadsPerProcess, threads, memoryWords, wordLimit, timeLimit, matchAny, maxCap}
 use Rattle.tables.specs.Tables.{World, sharesBit, threadNumber, threadOf, wordAt, queue, aligned, outside, tablesOk, endSleeps, moveSleeps, fallAsleep, asleepAt, writeWord, withState}
-use Rattle.rules.specs.Answers.{Row, _when_, Outcome, outcome}
+use Rattle.rules.specs.Answers.{Row, _because_, plain, _given_, _when_, Outcome, outcome}
 use Rattle.rules.specs.Commands.{commandOf, notImplemented, uses}
 use Rattle.rules.specs.WakeOp.{undefinedOp, newWord, compares}
 
@@ -56,6 +57,18 @@ badArgument k c =
     || uses k .second && not (aligned (c .uaddr2))
     || uses k .moves && eqb (c .uaddr) (c .uaddr2)
 
+-- The same, argument by argument, each with its reason: "1 first cap, 2 second cap, 3 mask zero, 4 uaddr not aligned .., 5 uaddr2 not aligned,
+-- 6 same address twice". "Where several apply, the lowest is given."
+unfoldable pub argumentRows : Command → Call → List Row
+argumentRows k c =
+    EINVAL because FirstCap given (uses k .cap && ltb maxCap (c .val))
+    ∷ EINVAL because SecondCap given (uses k .second && ltb maxCap (secondCap c))
+    ∷ EINVAL because MaskZero given (uses k .mask && eqb (c .val3) 0)
+    ∷ EINVAL because UaddrUnaligned given not (aligned (c .uaddr))
+    ∷ EINVAL because Uaddr2Unaligned given (uses k .second && not (aligned (c .uaddr2)))
+    ∷ EINVAL because SameAddress given (uses k .moves && eqb (c .uaddr) (c .uaddr2))
+    ∷ []
+
 -- "an address in use is 4096 or more"
 unfoldable pub badAddress : Command → Call → Bool
 badAddress k c = outside (c .uaddr) || uses k .second && outside (c .uaddr2)
@@ -88,22 +101,25 @@ late k c now = uses k .deadline && timeoutGiven c && leb (deadlineOf k c now) no
 abbrev pub full : ℕ → Bool
 full count = leb threads count
 
--- The table of answers from its third row on, by what a call reads of the tables and words: whether the caller waits, the clock, the
--- list's count and the word at uaddr.
-unfoldable pub callRows : Call → Bool → ℕ → ℕ → ℕ → List Row
-callRows c waits now count word =
+-- The table of answers from its third row on, with its rows for -22, by what a call reads of the tables and words: whether the caller
+-- waits, the clock, the list's count and the word at uaddr.
+abbrev pub tableWith : List Row → Call → Bool → ℕ → ℕ → ℕ → List Row
+tableWith arguments c waits now count word =
     let k = commandOf (c .op) in
     ESRCH when noThread (c .process) (c .index)
     ∷ EBUSY when waits
     ∷ ENOSYS when notImplemented (c .op)
-    ∷ EINVAL when badArgument k c
-    ∷ EFAULT when badAddress k c
+    ∷ (arguments
+    ++ (EFAULT when badAddress k c
     -- "WAKE_OP with an undefined operation or comparison"
     ∷ ENOSYS when (isWakeOp k && undefinedOp (c .val3))
     ∷ EAGAIN when differs k c word
     ∷ ETIMEDOUT when late k c now
     ∷ ENOMEM when full count
-    ∷ []
+    ∷ []))
+
+unfoldable pub callRows : Call → Bool → ℕ → ℕ → ℕ → List Row
+callRows c waits now count word = tableWith (argumentRows (commandOf (c .op)) c) c waits now count word
 
 -- "Mask is all ones", of a WAIT_BITSET "mask val3"
 abbrev pub maskOf : Command → Call → ℕ
@@ -172,4 +188,4 @@ callEffect WakeBitset c w = wake WakeBitset c w
 callEffect Requeue c w = requeue Requeue c w
 callEffect CmpRequeue c w = requeue CmpRequeue c w
 callEffect WakeOp c w = wakeOp WakeOp c w
-callEffect Unknown c w = outcome (Refused ENOSYS) w
+callEffect Unknown c w = outcome (Refused (plain ENOSYS)) w

@@ -1,5 +1,5 @@
--- "Twelve to be proved together": P1 to P12, each run from the fresh state over zero words, in one table; beside them further cases, and one
--- history of several processes. proofs/Theorems.antt has a statement for each table.
+-- "Twelve to be proved together": P1 to P12, each run from the fresh state over zero words, in one table; beside them further cases, the
+-- reasons of request (i), and one history of several processes. proofs/Theorems.antt has a statement for each table.
 use mathlib.Core.Bool.{Bool, true, false}
 use mathlib.Core.List.{List, [], _∷_, _++_, map}
 use Prim.Native.Nat.{ℕ, suc, _-_}
@@ -13,7 +13,8 @@ use Rattle.rules.specs.declared.event.Event.{Event}
 use Rattle.rules.specs.declared.event.Event.the-variants.{Call, Store, Clock, Interrupt, Query}
 use Rattle.tables.specs.Sizes.{memoryWords, threads, threadsPerProcess, matchAny, noEntry}
 use Rattle.tables.specs.Tables.{World, world, freshThread, threadOf, arrivals, wordAt}
-use Rattle.rules.specs.Answers.{answerNumbers, lastNumber}
+use Rattle.rules.specs.Answers.{reasonNumber, answerNumbers, reasonOf, lastNumber}
+use Rattle.rules.specs.Events.{step}
 use Rattle.rules.specs.History.{start, final, answers, answersTo, keptFor}
 
 -- the words are of process 0, and most cases use the one at this address
@@ -156,7 +157,72 @@ further =
     ∷ line (byWaker 5 other 0 1 address 0x50000000 ∷ byWaker 5 other 0 1 address 0x06000000 ∷ []) (minus 38 ∷ minus 38 ∷ []) [] [] 0
     ∷ []
 
+-- Reasons: an event at time 5, from the fresh state over zero words, its number and its reason. Each reason alone, then each pair that can
+-- apply at once: "Where several apply, the lowest is given." "0 with every other answer".
+pub record Reasoned : Type 0 where
+  pub event : Event
+  pub numbers : List ℤ
+  pub reason : ℕ
+
+abbrev excused : Event → List ℤ → ℕ → Reasoned
+excused e numbers r = record { event = e; numbers = numbers; reason = r }
+
+abbrev big : ℕ
+big = 2147483648
+
+-- WAKE, WAKE_BITSET with a mask, CMP_REQUEUE with a second cap and address, by their arguments
+abbrev wakeAt : ℕ → ℕ → Event
+wakeAt a v = byWaker 1 a v 0 0 0
+
+abbrev wakeMask : ℕ → ℕ → ℕ → Event
+wakeMask a v m = byWaker 10 a v 0 0 m
+
+abbrev cmpRequeue : ℕ → ℕ → ℕ → ℕ → Event
+cmpRequeue a v cap2 a2 = byWaker 4 a v cap2 a2 0
+
+abbrev pub reasoned : List Reasoned
+reasoned =
+    excused (wakeAt address big) (minus 22) 1
+    ∷ excused (cmpRequeue address 1 big other) (minus 22) 2
+    ∷ excused (wakeMask address 1 0) (minus 22) 3
+    ∷ excused (callBy 0 9 address 0 0 0 0 0) (minus 22) 3
+    ∷ excused (waitFor 0 9 0) (minus 22) 4
+    ∷ excused (Store 0 9 1) (minus 22) 4
+    ∷ excused (cmpRequeue address 1 1 13) (minus 22) 5
+    ∷ excused (cmpRequeue address 1 1 address) (minus 22) 6
+    ∷ excused (Clock 4) (minus 22) 7
+    -- 1 with 2, 3, 4, 5, 6; 2 with 4, 5, 6; 3 with 4; 4 with 5, 6
+    ∷ excused (cmpRequeue address big big other) (minus 22) 1
+    ∷ excused (wakeMask address big 0) (minus 22) 1
+    ∷ excused (wakeAt 9 big) (minus 22) 1
+    ∷ excused (cmpRequeue address big 1 13) (minus 22) 1
+    ∷ excused (cmpRequeue address big 1 address) (minus 22) 1
+    ∷ excused (cmpRequeue 9 1 big other) (minus 22) 2
+    ∷ excused (cmpRequeue address 1 big 13) (minus 22) 2
+    ∷ excused (cmpRequeue address 1 big address) (minus 22) 2
+    ∷ excused (wakeMask 9 1 0) (minus 22) 3
+    ∷ excused (cmpRequeue 9 1 1 13) (minus 22) 4
+    -- 5 and 6 apply at once only with 4
+    ∷ excused (cmpRequeue 9 1 1 9) (minus 22) 4
+    -- arguments that the command doesn't use, and other answers
+    ∷ excused (callBy 0 0 address 0 0 big 13 0) asleep 0
+    ∷ excused (waitFor 0 address big) (minus 11) 0
+    ∷ excused (callOf 8 0 1 9 big 0 0 0 0) (minus 3) 0
+    ∷ excused (callBy 0 2 9 big 0 0 0 0) (minus 38) 0
+    ∷ excused (wakeAt 4096 1) (minus 14) 0
+    ∷ excused (wakeAt 4097 1) (minus 22) 4
+    ∷ excused (Store 8 9 1) (minus 3) 0
+    ∷ excused (Clock 5) (number 0) 0
+    ∷ excused (Interrupt 0 8) (minus 3) 0
+    ∷ excused (Query 8) (three 0 0 8) 0
+    ∷ []
+
 -- what the rules give
+
+abbrev pub reasonedAs : Reasoned → Reasoned
+reasonedAs r =
+    let a = step (r .event) (final (Clock 5 ∷ []) (start (replicate memoryWords 0))) .answer in
+    excused (r .event) (answerNumbers a) (reasonNumber (reasonOf a))
 
 abbrev pub told : List Event → World → List (List ℤ)
 told h w = map answerNumbers (answers h w)

@@ -16,9 +16,11 @@ use Rattle.rules.specs.declared.event.Command.the-variants.{Wait, WaitBi
 use Rattle.rules.specs.declared.event.Call.{Call}
 use Rattle.rules.specs.declared.event.Event.{Event}
 use Rattle.rules.specs.declared.event.Event.the-variants.{Call as CallEvent, Store, Clock, Interrupt, Query}
-use Rattle.rules.specs.declared.answer.Errno.{Errno}
+use Rattle.rules.specs.declared.answer.Reason.{Reason}
+use Rattle.rules.specs.declared.answer.Reason.the-variants.{FirstCap, SecondCap, MaskZero, UaddrUnaligned, Uaddr2Unaligned, SameAddress, ClockBack}
+use Rattle.rules.specs.declared.answer.Refusal.{Refusal}
 use Rattle.rules.specs.declared.answer.Answer.the-variants.{Count}
-use Rattle.tables.specs.Sizes.{processes, threadsPerProcess, threads, wordBytes, bytesPerProcess, memoryWords}
+use Rattle.tables.specs.Sizes.{processes, threadsPerProcess, threads, wordBytes, bytesPerProcess, memoryWords, wordLimit, maxCap}
 use Rattle.tables.specs.Tables.{expired, World, threadNumber, processOf, wordNumber, wordAt, ended, threadOf, arrivals, queue, tablesOk, movedTo, asleepAt}
 use Rattle.rules.specs.Answers.{Row}
 use Rattle.rules.specs.Commands.{commandOf, bitSet, clockBit, uses}
@@ -27,15 +29,33 @@ use Rattle.rules.specs.Calls.{isWakeOp, caller, timeoutGiven, deadlineOf
 use Rattle.rules.specs.Events.{step}
 use Rattle.rules.specs.History.{final}
 
--- Refusals: x is the error of the first row that applies.
-pub data FirstOf (x : Errno) : List Row → Type 0 where
-  here : {r : Row} {rs : List Row} → r .applies ≡ true → r .errno ≡ x → FirstOf x (r ∷ rs)
+-- Refusals: x is the error, with its reason, of the first row that applies.
+pub data FirstOf (x : Refusal) : List Row → Type 0 where
+  here : {r : Row} {rs : List Row} → r .applies ≡ true → r .refusal ≡ x → FirstOf x (r ∷ rs)
   later : {r : Row} {rs : List Row} → r .applies ≡ false → FirstOf x rs → FirstOf x (r ∷ rs)
 
 -- no row applies
 abbrev pub Clear : List Row → Type 0
 Clear [] = Unit {0}
 Clear (r ∷ rs) = (r .applies ≡ false) × Clear rs
+
+-- Reasons: what may be wrong with an event, in request (i)'s words, and the reason that says so.
+pub data Fault (w : World) : Reason → Event → Type 0 where
+  -- "1 first cap"
+  firstCap : (c : Call) → uses (commandOf (c .op)) .cap ≡ true → maxCap < c .val → Fault w FirstCap (CallEvent c)
+  -- "2 second cap"
+  secondCap : (c : Call) → uses (commandOf (c .op)) .second ≡ true → maxCap < c .timeout % wordLimit → Fault w SecondCap (CallEvent c)
+  -- "3 mask zero"
+  maskZero : (c : Call) → uses (commandOf (c .op)) .mask ≡ true → c .val3 ≡ 0 → Fault w MaskZero (CallEvent c)
+  -- "4 uaddr not aligned (also a store's address)"
+  uaddrUnaligned : (c : Call) → (c .uaddr % wordBytes ≡ 0 → ⊥) → Fault w UaddrUnaligned (CallEvent c)
+  addressUnaligned : (p a v : ℕ) → (a % wordBytes ≡ 0 → ⊥) → Fault w UaddrUnaligned (Store p a v)
+  -- "5 uaddr2 not aligned"
+  uaddr2Unaligned : (c : Call) → uses (commandOf (c .op)) .second ≡ true → (c .uaddr2 % wordBytes ≡ 0 → ⊥) → Fault w Uaddr2Unaligned (CallEvent c)
+  -- "6 same address twice"
+  sameAddress : (c : Call) → uses (commandOf (c .op)) .moves ≡ true → c .uaddr ≡ c .uaddr2 → Fault w SameAddress (CallEvent c)
+  -- "7 clock went back"
+  clockBack : (now : ℕ) → now < w .state .clock → Fault w ClockBack (Clock now)
 
 -- Waits: WAIT or WAIT_BITSET.
 abbrev pub IsWait : Command → Type 0

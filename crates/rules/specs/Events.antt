@@ -11,11 +11,12 @@ use Rattle.tables.specs.declared.LastAnswer.the-variants.{TimedOut, Interrupted
 use Rattle.rules.specs.declared.event.Event.{Event}
 use Rattle.rules.specs.declared.event.Event.the-variants.{Call, Store, Clock, Interrupt, Query}
 use Rattle.rules.specs.declared.answer.Errno.the-variants.{ESRCH, EINVAL, EFAULT}
+use Rattle.rules.specs.declared.answer.Reason.the-variants.{UaddrUnaligned, ClockBack}
 use Rattle.rules.specs.declared.answer.Panel.{Panel}
 use Rattle.rules.specs.declared.answer.Answer.the-variants.{Count, Waiting}
 use Rattle.tables.specs.Sizes.{threadsPerProcess}
 use Rattle.tables.specs.Tables.{outside, World, expiredSleepers, threadNumber, threadOf, wordAt, aligned, tablesOk, endSleeps, writeWord, withClock, withState}
-use Rattle.rules.specs.Answers.{Row, _when_, first, Outcome, outcome, judged}
+use Rattle.rules.specs.Answers.{Row, _because_, _given_, _when_, first, Outcome, outcome, judged}
 use Rattle.rules.specs.Commands.{commandOf}
 use Rattle.rules.specs.Calls.{firstRows, noProcess, noThread, caller, callRows, callEffect}
 
@@ -23,10 +24,10 @@ use Rattle.rules.specs.Calls.{firstRows, noProcess, noThread, caller, ca
 abbrev pub ownRows : Event → World → List Row
 ownRows (Call c) w =
     callRows c (threadOf (w .state) (caller c) .waiting) (w .state .clock) (w .state .count) (wordAt w (c .process) (c .uaddr))
--- "-6, -9, -3, -22 (not aligned), -14"
-ownRows (Store p a v) w = ESRCH when noProcess p ∷ EINVAL when not (aligned a) ∷ EFAULT when outside a ∷ []
--- "-6, -9, -22 if earlier than the clock"
-ownRows (Clock now) w = EINVAL when ltb now (w .state .clock) ∷ []
+-- "-6, -9, -3, -22 (not aligned), -14"; "4 uaddr not aligned (also a store's address)"
+ownRows (Store p a v) w = ESRCH when noProcess p ∷ EINVAL because UaddrUnaligned given not (aligned a) ∷ EFAULT when outside a ∷ []
+-- "-6, -9, -22 if earlier than the clock"; "7 clock went back"
+ownRows (Clock now) w = EINVAL because ClockBack given ltb now (w .state .clock) ∷ []
 -- "-6, -9, -3"
 ownRows (Interrupt p i) w = ESRCH when noThread p i ∷ []
 ownRows (Query p) w = []

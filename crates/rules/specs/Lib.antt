@@ -1,10 +1,11 @@
 -- Document 01 from "Answers by number" to "Other events" as definitions, in its order; its sizes and tables stand in arrivals and tables, its
--- log in bodies and log. Claims and Numbers have the words in which the theorems speak of them, Cases the cases that are computed.
+-- log in bodies and log. Before has what request (i) changed, as it was; Claims and Numbers have the words in which the theorems speak of them, Cases the cases that are computed.
 pub mod Answers
 pub mod Commands
 pub mod WakeOp
 pub mod Calls
 pub mod Events
+pub mod Before
 pub mod Numbers
 pub mod History
 pub mod Claims

@@ -1,6 +1,6 @@
 // What the kernel answers.
 ghost use mathlib.Core.Path.{_≡_};
-ghost use Rattle.rules.specs.Answers.{errnoNumber};
+ghost use Rattle.rules.specs.Answers.{errnoNumber, reasonNumber};
 use tables::State;
 
 // The error numbers of the Linux headers that a refusal can give.
@@ -36,9 +36,44 @@ impl Errno {
     }
 }
 
+// What is wrong with an event that is refused with -22.
+pub enum Reason {
+    NoReason,
+    FirstCap,
+    SecondCap,
+    MaskZero,
+    UaddrUnaligned,
+    Uaddr2Unaligned,
+    SameAddress,
+    ClockBack,
+}
+
+impl Reason {
+    pub fn number(self) -> u8
+        ensures { λ r. ⌜ r ≡ reasonNumber self ⌝ }
+    {
+        match self {
+            Reason::NoReason => 0,
+            Reason::FirstCap => 1,
+            Reason::SecondCap => 2,
+            Reason::MaskZero => 3,
+            Reason::UaddrUnaligned => 4,
+            Reason::Uaddr2Unaligned => 5,
+            Reason::SameAddress => 6,
+            Reason::ClockBack => 7,
+        }
+    }
+}
+
+// An error, and the reason beside it.
+pub struct Refusal {
+    pub errno: Errno,
+    pub reason: Reason,
+}
+
 // The tests of the table of answers: the first that applies refuses.
 pub enum Verdict {
-    Refuse(Errno),
+    Refuse(Refusal),
     Pass,
 }
 
@@ -52,7 +87,7 @@ pub struct Panel {
 pub enum Answer {
     Asleep,
     Count(u32),
-    Refused(Errno),
+    Refused(Refusal),
     Waiting(Panel),
 }
 

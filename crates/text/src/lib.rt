@@ -64,7 +64,8 @@ pub fn put_line(a: Answer, out: &mut [u8], k: usize) -> usize
         Answer::Asleep => put(b"asleep\n", out, k),
         Answer::Count(n) => put_count(n, out, k),
         Answer::Refused(x) => {
-            let n = x.number();
+            let e = x.errno;
+            let n = e.number();
             put_refusal(n, out, k)
         }
         Answer::Waiting(_) => k,

@@ -1,10 +1,11 @@
 // Verdicts: the table of answers, every refusal of a call, on the few numbers that it reads. It stands on commands and operations.
 ghost use mathlib.Core.Path.{_≡_};
 ghost use mathlib.Core.Bool.{cond};
+ghost use Rattle.rules.specs.declared.answer.Errno.the-variants.{EINVAL};
 ghost use Rattle.rules.specs.declared.answer.Verdict.the-variants.{Refuse};
-ghost use Rattle.rules.specs.Answers.{first};
+ghost use Rattle.rules.specs.Answers.{_because_, plain, first, firstOr, reasonIn};
 ghost use Rattle.rules.specs.Commands.{commandOf};
-ghost use Rattle.rules.specs.Calls.{noThread, badArgument, badAddress, differs, late, callRows};
+ghost use Rattle.rules.specs.Calls.{noThread, badArgument, argumentRows, badAddress, differs, late, callRows};
 use commands::deadline_of;
 use commands::not_implemented;
 use commands::second_cap;
@@ -12,6 +13,8 @@ use commands::timeout_given;
 use commands::uses_by;
 use operations::undefined_op;
 use rules::answer::Errno;
+use rules::answer::Reason;
+use rules::answer::Refusal;
 use rules::answer::Verdict;
 use rules::event::Call;
 use tables::PROCESS_BYTES;
@@ -24,9 +27,30 @@ const MAX_CAP: u32 = 2147483647;
 
 // A row of the table, before the rows below it.
 pub fn row(x: Errno, applies: bool, below: Verdict) -> Verdict
-    ensures { λ r. ⌜ r ≡ cond applies (Refuse x) below ⌝ }
+    ensures { λ r. ⌜ r ≡ cond applies (Refuse (plain x)) below ⌝ }
 {
-    if applies { Verdict::Refuse(x) } else { below }
+    if applies {
+        Verdict::Refuse(Refusal {
+            errno: x,
+            reason: Reason::NoReason,
+        })
+    } else {
+        below
+    }
+}
+
+// A row for -22, with its reason.
+pub fn invalid(reason: Reason, applies: bool, below: Verdict) -> Verdict
+    ensures { λ r. ⌜ r ≡ cond applies (Refuse (EINVAL because reason)) below ⌝ }
+{
+    if applies {
+        Verdict::Refuse(Refusal {
+            errno: Errno::EINVAL,
+            reason: reason,
+        })
+    } else {
+        below
+    }
 }
 
 pub fn no_thread(process: u8, index: u8) -> bool
@@ -35,6 +59,7 @@ pub fn no_thread(process: u8, index: u8) -> bool
     (PROCESSES <= process as usize) | (State::THREADS_PER_PROCESS <= index as usize)
 }
 
+// All the rows for -22 at once: most calls pass them.
 fn bad_argument(c: Call) -> bool
     ensures { λ r. ⌜ r ≡ badArgument (commandOf (c .op)) c ⌝ }
 {
@@ -46,6 +71,44 @@ fn bad_argument(c: Call) -> bool
         | (c.uaddr % WORD_BYTES != 0)
         | (u.second & (c.uaddr2 % WORD_BYTES != 0))
         | (u.moves & (c.uaddr == c.uaddr2))
+}
+
+// A reason, before those of the rows below it.
+fn reason_if(reason: Reason, applies: bool, below: Reason) -> Reason
+    ensures { λ r. ⌜ r ≡ cond applies reason below ⌝ }
+{
+    if applies { reason } else { below }
+}
+
+// What is wrong with a call's arguments, from the last row for -22 up: the lowest reason that applies.
+pub fn wrong_argument(c: Call) -> Reason
+    ensures { λ r. ⌜ r ≡ reasonIn (first (argumentRows (commandOf (c .op)) c)) ⌝ }
+{
+    let u = uses_by(c.op);
+    let cap2 = second_cap(c);
+    let r = reason_if(
+        Reason::SameAddress,
+        u.moves & (c.uaddr == c.uaddr2),
+        Reason::NoReason,
+    );
+    let r = reason_if(
+        Reason::Uaddr2Unaligned,
+        u.second & (c.uaddr2 % WORD_BYTES != 0),
+        r,
+    );
+    let r = reason_if(Reason::UaddrUnaligned, c.uaddr % WORD_BYTES != 0, r);
+    let r = reason_if(Reason::MaskZero, u.mask & (c.val3 == 0), r);
+    let r = reason_if(Reason::SecondCap, u.second & (MAX_CAP < cap2), r);
+    reason_if(Reason::FirstCap, u.cap & (MAX_CAP < c.val), r)
+}
+
+// The rows for -22, before the rows below them.
+fn arguments(c: Call, below: Verdict) -> Verdict
+    ensures { λ r. ⌜ r ≡ firstOr (argumentRows (commandOf (c .op)) c) below ⌝ }
+{
+    let bad = bad_argument(c);
+    let reason = wrong_argument(c);
+    invalid(reason, bad, below)
 }
 
 fn bad_address(c: Call) -> bool
@@ -83,7 +146,7 @@ pub fn verdict_on(c: Call, waits: bool, now: u64, count: usize, word: u32) -> Ve
     let v = row(Errno::EAGAIN, differs(c, word), v);
     let v = row(Errno::ENOSYS, u.second & !u.moves & undefined, v);
     let v = row(Errno::EFAULT, bad_address(c), v);
-    let v = row(Errno::EINVAL, bad_argument(c), v);
+    let v = arguments(c, v);
     let v = row(Errno::ENOSYS, not_implemented(c.op), v);
     let v = row(Errno::EBUSY, waits, v);
     row(Errno::ESRCH, no_thread(c.process, c.index), v)

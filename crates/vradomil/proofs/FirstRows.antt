@@ -10,6 +10,7 @@ use borrow.Author.Tests.{eq-eqb, ne-eqb}
 use Rattle.rules.proofs.Rows.{not-pass}
 use Rattle.rules.specs.declared.answer.Verdict.the-variants.{Refuse, Pass}
 use Rattle.rules.specs.declared.answer.Errno.the-variants.{ENXIO, EBADF}
+use Rattle.rules.specs.Answers.{plain}
 use Rattle.rules.specs.Calls.{wrongMemory}
 use Rattle.tables.specs.Sizes.{wordBytes, memoryWords}
 use Rattle.tables.specs.Tables.{tablesOk}
@@ -29,10 +30,10 @@ right-words : (b m : List ℕ) → length m ≡ memorySize → wrongMemory (seen
 right-words b m h = ap not (eq-eqb (length (wordsAt m)) memoryWords (words-length memoryWords m h))
 
 module _ (b m : List ℕ) where
-  pub refused-memory : (length m ≡ memorySize → ⊥) → BuffersJudged b m (Refuse ENXIO)
+  pub refused-memory : (length m ≡ memorySize → ⊥) → BuffersJudged b m (Refuse (plain ENXIO))
   refused-memory h = record { verdict = rw (wrong-words b m h); held = not-pass; long = not-pass }
 
-  pub refused-tables : length m ≡ memorySize → tablesOk (tablesAt b) ≡ false → BuffersJudged b m (Refuse EBADF)
+  pub refused-tables : length m ≡ memorySize → tablesOk (tablesAt b) ≡ false → BuffersJudged b m (Refuse (plain EBADF))
   refused-tables size bad = record { verdict = rw (right-words b m size, bad); held = not-pass; long = not-pass }
 
   pub let-through : length m ≡ memorySize → tablesOk (tablesAt b) ≡ true → Held b → BuffersJudged b m Pass

@@ -1,7 +1,7 @@
 -- An event's number and bytes are the rules', by its verdict: refused, or let through.
-use mathlib.Core.Path.{_≡_, sym, ap, subst, subst₂, _∙_}
+use mathlib.Core.Path.{_≡_, refl, sym, ap, subst, subst₂, _∙_}
 use mathlib.Core.Bool.{false, cond}
-use mathlib.Core.List.{List, _++_}
+use mathlib.Core.List.{List, [], _++_}
 use Prim.Native.Nat.{ℕ, _≤_}
 use lib.IntN.{ℤ, pos}
 use mir.Syntax.{w32}
@@ -12,7 +12,7 @@ use Rattle.tables.specs.declared.Taken.{Taken}
 use Rattle.rules.specs.declared.event.Call.{Call}
 use Rattle.rules.specs.declared.event.Event.{Event}
 use Rattle.rules.specs.declared.event.Event.the-variants.{Call as CallEvent}
-use Rattle.rules.specs.declared.answer.Errno.{Errno}
+use Rattle.rules.specs.declared.answer.Refusal.{Refusal}
 use Rattle.rules.specs.declared.answer.Verdict.{Verdict}
 use Rattle.rules.specs.declared.answer.Verdict.the-variants.{Refuse, Pass}
 use Rattle.rules.specs.declared.answer.Answer.{Answer}
@@ -53,14 +53,14 @@ leaves-by o p n after is h = subst (λ (x : Outcome). Leaves x n after) is h
 -- The first two rows, before those of the event.
 
 module _ (b m : List ℕ) (v : Verdict) (l : BuffersJudged b m v) (rest : List Row) where
-  buffers-refused : (z : Errno) → v ≡ Refuse z → first (firstRows (seen b m) ++ rest) ≡ Refuse z
+  buffers-refused : (z : Refusal) → v ≡ Refuse z → first (firstRows (seen b m) ++ rest) ≡ Refuse z
   buffers-refused z h = refused-before (firstRows (seen b m)) rest z (sym (l .verdict) ∙ h)
 
   pub buffers-passed : v ≡ Pass → first (firstRows (seen b m) ++ rest) ≡ first rest
   buffers-passed h = passed-before (firstRows (seen b m)) rest (sym (l .verdict) ∙ h)
 
 module _ (e : Event) (b m : List ℕ) (v : Verdict) (l : BuffersJudged b m v) (some : isQuery e ≡ false) where
-  pub event-refused : (x : Errno) → v ≡ Refuse x → first (refusals e (seen b m)) ≡ Refuse x
+  pub event-refused : (x : Refusal) → v ≡ Refuse x → first (refusals e (seen b m)) ≡ Refuse x
   event-refused x h = ap first (all-rows e (seen b m) some) ∙ buffers-refused b m v l (ownRows e (seen b m)) x h
 
   pub event-passed : v ≡ Pass → first (refusals e (seen b m)) ≡ first (ownRows e (seen b m))
@@ -74,7 +74,7 @@ words-changed : (o : Outcome) (m : List ℕ) → isRefused (o .answer) ≡ false
 words-changed o m h = ap (λ r. cond r m (wordsBytes (o .world .words))) h
 
 module _ (e : Event) (b m : List ℕ) (r : ℤ) where
-  module _ (x : Errno) (h : first (refusals e (seen b m)) ≡ Refuse x) (n : r ≡ hostNumber (Refused x)) where
+  module _ (x : Refusal) (h : first (refusals e (seen b m)) ≡ Refuse x) (n : r ≡ hostNumber (Refused x)) where
     number-refused : r ≡ hostNumber (step e (seen b m) .answer)
     number-refused = n ∙ ap (λ (o : Outcome). hostNumber (o .answer)) (sym (step-refused e (seen b m) x h))
 
@@ -84,11 +84,11 @@ module _ (e : Event) (b m : List ℕ) (r : ℤ) where
     words-refused : m ≡ wordsLeft (step e (seen b m)) m
     words-refused = ap (λ (o : Outcome). wordsLeft o m) (sym (step-refused e (seen b m) x h))
 
-    pub changes-tables-refused : EventFits e → ChangesTables e b m r b
-    changes-tables-refused f = record { number = number-refused; bytes = tables-refused; fits = f }
+    pub changes-tables-refused : EventFits e → ChangesTables e b m [] r b []
+    changes-tables-refused f = record { number = number-refused; bytes = tables-refused; report = refl; fits = f }
 
-    pub changes-words-refused : EventFits e → ChangesWords e b m r m
-    changes-words-refused f = record { number = number-refused; bytes = words-refused; fits = f }
+    pub changes-words-refused : EventFits e → ChangesWords e b m [] r m []
+    changes-words-refused f = record { number = number-refused; bytes = words-refused; report = refl; fits = f }
 
   module _ (h : first (refusals e (seen b m)) ≡ Pass) (n : r ≡ hostNumber (effect e (seen b m) .answer)) where
     pub number-passed : r ≡ hostNumber (step e (seen b m) .answer)
@@ -105,27 +105,28 @@ module _ (e : Event) (b m : List ℕ) (r : ℤ) where
 
 -- an event that leaves the words, on tables that keep the rules
 pub changes-tables-done : (e : Event) (b m : List ℕ) (r : ℤ) (n : ℕ) (after : List ℕ) → Held b → first (refusals e (seen b m)) ≡ Pass
-    → r ≡ pos n → Leaves (effect e (world (stateAt b) (wordsAt m))) n after → EventFits e → ChangesTables e b m r after
+    → r ≡ pos n → Leaves (effect e (world (stateAt b) (wordsAt m))) n after → EventFits e → ChangesTables e b m [] r after []
 changes-tables-done e b m r n after held h is done f =
     let d = leaves-by _ _ n after (ap (λ (s : State). effect e (world s (wordsAt m))) (sym (held .tables))) done in
     let number = is ∙ d .number in
-    record { number = number-passed e b m r h number; bytes = tables-passed e b m r h number after (d .bytes); fits = f }
+    record { number = number-passed e b m r h number; bytes = tables-passed e b m r h number after (d .bytes); report = refl; fits = f }
 
 -- a call
 module _ (c : Call) (b m : List ℕ) (r : ℤ) (f : CallFits c) where
-  pub calls-refused : (x : Errno) → first (refusals (CallEvent c) (seen b m)) ≡ Refuse x → r ≡ hostNumber (Refused x) → Calls c b m r b m
+  pub calls-refused : (x : Refusal) → first (refusals (CallEvent c) (seen b m)) ≡ Refuse x → r ≡ hostNumber (Refused x) → Calls c b m [] r b m []
   calls-refused x h n =
       record {
         number = number-refused (CallEvent c) b m r x h n;
         tables = tables-refused (CallEvent c) b m r x h n;
         words = words-refused (CallEvent c) b m r x h n;
+        report = refl;
         fits = f;
       }
 
   pub calls-passed : (n : ℕ) (bAfter mAfter : List ℕ) → Held b → first (refusals (CallEvent c) (seen b m)) ≡ Pass → r ≡ pos n
       → Leaves (callEffect (commandOf (c .op)) c (world (stateAt b) (wordsAt m))) n bAfter
       → mAfter ≡ wordsBytes (callEffect (commandOf (c .op)) c (world (stateAt b) (wordsAt m)) .world .words)
-      → Calls c b m r bAfter mAfter
+      → Calls c b m [] r bAfter mAfter []
   unfolding effect
   calls-passed n bAfter mAfter held h is done words =
       let k = commandOf (c .op) in
@@ -136,5 +137,6 @@ module _ (c : Call) (b m : List ℕ) (r : ℤ) (f : CallFits c) where
         number = number-passed (CallEvent c) b m r h number;
         tables = tables-passed (CallEvent c) b m r h number bAfter (d .bytes);
         words = words-passed (CallEvent c) b m r h number mAfter (words ∙ ap (λ (o : Outcome). wordsBytes (o .world .words)) same);
+        report = refl;
         fits = f;
       }

@@ -2,12 +2,13 @@
 -- events it can pass, and that what an entry point ensures leaves nothing open. crates/hosting has the theorems of whole histories.
 use mathlib.Core.Path.{_≡_, refl, sym, ap, _∙_}
 use mathlib.Core.Bool.{Bool, true, false, not, cond, _||_}
-use mathlib.Core.List.{List, [], _∷_, map}
+use mathlib.Core.List.{List, [], _∷_, _++_, map, append-nil}
 use mathlib.Core.Logic.{_⊎_, inl, inr, _↔_}
-use Prim.Native.Nat.{ℕ, _/_, _%_, _^_, _<_}
+use Prim.Native.Nat.{ℕ, _/_, _%_, _^_, _≤_, _<_}
 use native.Mathlib.Omega.{arith}
 use lib.Count.{ones, trailingZeros, ones-le, trailing-le}
-use lib.ListN.{length, getD}
+use lib.ListN.{length, getD, take, drop, drop-of-length-le}
+use lib.Seq.{take-all}
 use lib.IntN.{ℤ, pos, negℤ}
 use lib.Dec.{eqb}
 use borrow.Author.Tests.{eq-eqb, ne-eqb}
@@ -22,12 +23,12 @@ use Rattle.rules.specs.declared.answer.Errno.the-variants.{ENXIO, EBADF, ESRCH,
 use Rattle.rules.specs.declared.answer.Panel.{Panel}
 use Rattle.rules.specs.declared.answer.Answer.{Answer}
 use Rattle.rules.specs.declared.answer.Answer.the-variants.{Asleep, Count, Refused, Waiting}
-use Rattle.rules.specs.Answers.{answerNumbers}
+use Rattle.rules.specs.Answers.{plain, answerNumbers, reasonNumber, reasonOf}
 use Rattle.rules.specs.Calls.{noProcess}
 use Rattle.rules.specs.Events.{waitingSet, panelOf, panel}
 use Rattle.kernel.proofs.Events.{bits-small}
 use Rattle.layout.specs.Layout.{tablesBytes, tablesSize, tablesAt, wordsBytes, wordsAt}
-use Rattle.vradomil.specs.Host.{packed, hostNumber, EventFits, Calls, ChangesWords, ChangesTables, Shows, Initialised}
+use Rattle.vradomil.specs.Host.{packed, hostNumber, reportBytes, reportSize, laidOver, EventFits, Calls, ChangesWords, ChangesTables, Shows, Initialised}
 use Rattle.changes.specs.Change.{Fits}
 use Rattle.changes.proofs.Faithful.{tables-back}
 use Rattle.vradomil.proofs.Memory.{words-back}
@@ -44,7 +45,7 @@ words-stand ws long fit = words-back memoryWords ws long fit
 -- threads 1 and 3 asleep a panel query is 10 in the lowest byte, 2 in the second, 1 above.
 pub host-numbers : (n : ℕ)
     → (hostNumber Asleep ≡ pos 2147483647) × (hostNumber (Count n) ≡ pos n)
-    × (map (λ x. hostNumber (Refused x)) (ENXIO ∷ EBADF ∷ ESRCH ∷ EBUSY ∷ ENOSYS ∷ EINVAL ∷ EFAULT ∷ EAGAIN ∷ ETIMEDOUT ∷ ENOMEM ∷ [])
+    × (map (λ x. hostNumber (Refused (plain x))) (ENXIO ∷ EBADF ∷ ESRCH ∷ EBUSY ∷ ENOSYS ∷ EINVAL ∷ EFAULT ∷ EAGAIN ∷ ETIMEDOUT ∷ ENOMEM ∷ [])
     ≡ map (λ k. negℤ (pos k)) (6 ∷ 9 ∷ 3 ∷ 16 ∷ 38 ∷ 22 ∷ 14 ∷ 11 ∷ 110 ∷ 12 ∷ []))
     × (hostNumber (Waiting (panelOf 10)) ≡ pos 0x01020A)
 unfolding ones trailingZeros
@@ -90,22 +91,37 @@ pub fits-exactly : (p i a v now : ℕ)
 fits-exactly p i a v now = ((λ f. f, λ f. f), (λ f. f, λ f. f), (λ f. f, λ f. f), (λ f. f, λ f. f))
 
 -- What an entry point ensures leaves nothing open: the number and every byte that it may change are fixed by the event and the bytes that came.
-pub call-fixed : {c : Call} {b m b1 m1 b2 m2 : List ℕ} {r s : ℤ} → Calls c b m r b1 m1 → Calls c b m s b2 m2 → (r ≡ s) × (b1 ≡ b2) × (m1 ≡ m2)
-call-fixed f g = (f .number ∙ sym (g .number), f .tables ∙ sym (g .tables), f .words ∙ sym (g .words))
+pub call-fixed : {c : Call} {b m l b1 m1 t1 b2 m2 t2 : List ℕ} {r s : ℤ} → Calls c b m l r b1 m1 t1 → Calls c b m l s b2 m2 t2
+    → (r ≡ s) × (b1 ≡ b2) × (m1 ≡ m2) × (t1 ≡ t2)
+call-fixed f g = (f .number ∙ sym (g .number), f .tables ∙ sym (g .tables), f .words ∙ sym (g .words), f .report ∙ sym (g .report))
 
-pub words-fixed : {e : Event} {b m m1 m2 : List ℕ} {r s : ℤ} → ChangesWords e b m r m1 → ChangesWords e b m s m2 → (r ≡ s) × (m1 ≡ m2)
-words-fixed f g = (f .number ∙ sym (g .number), f .bytes ∙ sym (g .bytes))
+pub words-fixed : {e : Event} {b m l m1 t1 m2 t2 : List ℕ} {r s : ℤ} → ChangesWords e b m l r m1 t1 → ChangesWords e b m l s m2 t2
+    → (r ≡ s) × (m1 ≡ m2) × (t1 ≡ t2)
+words-fixed f g = (f .number ∙ sym (g .number), f .bytes ∙ sym (g .bytes), f .report ∙ sym (g .report))
 
-pub tables-fixed : {e : Event} {b m b1 b2 : List ℕ} {r s : ℤ} → ChangesTables e b m r b1 → ChangesTables e b m s b2 → (r ≡ s) × (b1 ≡ b2)
-tables-fixed f g = (f .number ∙ sym (g .number), f .bytes ∙ sym (g .bytes))
+pub tables-fixed : {e : Event} {b m l b1 t1 b2 t2 : List ℕ} {r s : ℤ} → ChangesTables e b m l r b1 t1 → ChangesTables e b m l s b2 t2
+    → (r ≡ s) × (b1 ≡ b2) × (t1 ≡ t2)
+tables-fixed f g = (f .number ∙ sym (g .number), f .bytes ∙ sym (g .bytes), f .report ∙ sym (g .report))
 
 pub query-fixed : {p n k : ℕ} {b : List ℕ} → Shows p b n → Shows p b k → n ≡ k
 query-fixed f g = f .number ∙ sym (g .number)
+
+-- Reports: one byte, the reason; laid over bytes that are lent, as much of it as they have room for, and what is behind it stays.
+pub report-of : (a : Answer) → (reportBytes a ≡ reasonNumber (reasonOf a) ∷ []) × (length (reportBytes a) ≡ reportSize)
+report-of a = (refl, refl)
+
+pub laid-over : (report lent : List ℕ)
+    → (length lent ≤ length report → laidOver report lent ≡ take (length lent) report)
+    × (length report ≤ length lent → laidOver report lent ≡ report ++ drop (length report) lent)
+laid-over report lent = (
+  (λ h. ap (λ l. take (length lent) report ++ l) (drop-of-length-le lent h) ∙ append-nil _),
+  (λ h. ap (λ l. l ++ drop (length report) lent) (take-all (length lent) report h)),
+)
 
 -- vradomil_fresh: 1,296 bytes become those of the fresh tables, and the answer is 0; bytes of another length stay, and the answer is -9.
 pub fresh-laid : {b after : List ℕ} {r : ℤ} → Initialised b r after
     → (length b ≡ tablesSize → (r ≡ pos 0) × (after ≡ tablesBytes fresh)) × ((length b ≡ tablesSize → ⊥) → (r ≡ negℤ (pos 9)) × (after ≡ b))
 fresh-laid {b} {after} {r} f = (λ e. laid true (eq-eqb (length b) tablesSize e), λ e. laid false (ne-eqb (length b) tablesSize e))
   where
-    laid : (x : Bool) → eqb (length b) tablesSize ≡ x → (r ≡ hostNumber (cond x (Count 0) (Refused EBADF))) × (after ≡ cond x (tablesBytes fresh) b)
-    laid x is = (f .number ∙ ap (λ y. hostNumber (cond y (Count 0) (Refused EBADF))) is, f .bytes ∙ ap (λ y. cond y (tablesBytes fresh) b) is)
+    laid : (x : Bool) → eqb (length b) tablesSize ≡ x → (r ≡ hostNumber (cond x (Count 0) (Refused (plain EBADF)))) × (after ≡ cond x (tablesBytes fresh) b)
+    laid x is = (f .number ∙ ap (λ y. hostNumber (cond y (Count 0) (Refused (plain EBADF)))) is, f .bytes ∙ ap (λ y. cond y (tablesBytes fresh) b) is)

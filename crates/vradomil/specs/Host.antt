@@ -1,10 +1,10 @@
 -- What a C host gets: the rules' answers as numbers, and every byte of tables and words afterwards.
 use mathlib.Core.Path.{_≡_}
-use mathlib.Core.Bool.{cond}
-use mathlib.Core.List.{List, [], _∷_}
+use mathlib.Core.Bool.{Bool, false, cond}
+use mathlib.Core.List.{List, [], _∷_, _++_}
 use Prim.Native.Nat.{ℕ, _+_, _*_, _^_, _≤_, _<_}
-use lib.IntN.{ℤ, pos, negℤ}
-use lib.ListN.{length}
+use lib.IntN.{ℤ, pos, negsuc, negℤ}
+use lib.ListN.{length, take, drop}
 use lib.Dec.{eqb}
 use Rattle.tables.specs.declared.State.{State}
 use Rattle.rules.specs.declared.event.Call.{Call}
@@ -14,12 +14,12 @@ use Rattle.rules.specs.declared.answer.Answer.{Answer}
 use Rattle.rules.specs.declared.answer.Answer.the-variants.{Asleep, Count, Refused, Waiting}
 use Rattle.rules.specs.declared.answer.Verdict.{Verdict}
 use Rattle.rules.specs.declared.answer.Verdict.the-variants.{Pass}
-use Rattle.rules.specs.declared.answer.Errno.the-variants.{ENXIO, EBADF}
+use Rattle.rules.specs.declared.answer.Errno.the-variants.{EBADF}
 use Rattle.rules.specs.declared.answer.Panel.{Panel}
 use Rattle.tables.specs.Sizes.{wordLimit, timeLimit}
 use Rattle.tables.specs.Tables.{World, world, fresh}
-use Rattle.rules.specs.Answers.{_when_, first, Outcome, isRefused, errnoNumber, asleepNumber}
-use Rattle.rules.specs.Calls.{wrongMemory, brokenTables}
+use Rattle.rules.specs.Answers.{plain, first, Outcome, isRefused, errnoNumber, reasonNumber, reasonOf, asleepNumber}
+use Rattle.rules.specs.Calls.{firstRows}
 use Rattle.rules.specs.Events.{step, refusals, panel}
 use Rattle.effects.specs.Ready.{Ready}
 use Rattle.layout.specs.Layout.{tablesAt, tablesBytes, tablesSize, stateAt, wordsAt, wordsBytes, memorySize}
@@ -50,8 +50,19 @@ packed v = v .waiting + countUnit * v .count + lowestUnit * v .lowest
 abbrev pub hostNumber : Answer → ℤ
 hostNumber Asleep = pos asleepNumber
 hostNumber (Count n) = pos n
-hostNumber (Refused x) = negℤ (pos (errnoNumber x))
+hostNumber (Refused x) = negℤ (pos (errnoNumber (x .errno)))
 hostNumber (Waiting v) = pos (packed v)
+
+-- What an event tells beside its number, byte by byte: the reason.
+abbrev pub reportBytes : Answer → List ℕ
+reportBytes a = reasonNumber (reasonOf a) ∷ []
+
+abbrev pub reportSize : ℕ
+reportSize = 1
+
+-- A report laid over the bytes that a host lends for it: as much of it as has room there, and the bytes behind it as they were.
+abbrev pub laidOver : List ℕ → List ℕ → List ℕ
+laidOver report lent = take (length lent) report ++ drop (length report) lent
 
 -- Each argument fits its type in C: uint8_t, uint32_t, uint64_t.
 abbrev pub byteLimit : ℕ
@@ -75,26 +86,29 @@ EventFits (Clock now) = now < timeLimit
 EventFits (Interrupt p i) = (p < byteLimit) × (i < byteLimit)
 EventFits (Query p) = p < byteLimit
 
--- What the entry points ensure: the number, every byte that they may change, and, since no other event can be passed to them, that the event's
--- arguments fit their types.
+-- What the entry points ensure: the number, every byte that they may change, the bytes `lent` for a report among them, and, since no other
+-- event can be passed to them, that the event's arguments fit their types. One that is lent no bytes for a report ensures it of none.
 
 -- An event that may change the tables, with words that are only read.
-pub record ChangesTables (e : Event) (tables words : List ℕ) (r : ℤ) (after : List ℕ) : Type 0 where
+pub record ChangesTables (e : Event) (tables words lent : List ℕ) (r : ℤ) (after told : List ℕ) : Type 0 where
   pub number : r ≡ hostNumber (step e (seen tables words) .answer)
   pub bytes : after ≡ tablesLeft (step e (seen tables words)) tables
+  pub report : told ≡ laidOver (reportBytes (step e (seen tables words) .answer)) lent
   pub fits : EventFits e
 
 -- An event that may change a word, with tables that are only read.
-pub record ChangesWords (e : Event) (tables words : List ℕ) (r : ℤ) (after : List ℕ) : Type 0 where
+pub record ChangesWords (e : Event) (tables words lent : List ℕ) (r : ℤ) (after told : List ℕ) : Type 0 where
   pub number : r ≡ hostNumber (step e (seen tables words) .answer)
   pub bytes : after ≡ wordsLeft (step e (seen tables words)) words
+  pub report : told ≡ laidOver (reportBytes (step e (seen tables words) .answer)) lent
   pub fits : EventFits e
 
 -- A call, which may change both.
-pub record Calls (c : Call) (b m : List ℕ) (r : ℤ) (bAfter mAfter : List ℕ) : Type 0 where
+pub record Calls (c : Call) (b m lent : List ℕ) (r : ℤ) (bAfter mAfter told : List ℕ) : Type 0 where
   pub number : r ≡ hostNumber (step (CallEvent c) (seen b m) .answer)
   pub tables : bAfter ≡ tablesLeft (step (CallEvent c) (seen b m)) b
   pub words : mAfter ≡ wordsLeft (step (CallEvent c) (seen b m)) m
+  pub report : told ≡ laidOver (reportBytes (step (CallEvent c) (seen b m) .answer)) lent
   pub fits : CallFits c
 
 -- A panel query, which changes nothing.
@@ -104,14 +118,19 @@ pub record Shows (p : ℕ) (tables : List ℕ) (n : ℕ) : Type 0 where
 
 -- fresh tables are laid down; of another length than the tables' they are refused as the tables would be
 pub record Initialised (b : List ℕ) (r : ℤ) (after : List ℕ) : Type 0 where
-  pub number : r ≡ hostNumber (cond (eqb (length b) tablesSize) (Count 0) (Refused EBADF))
+  pub number : r ≡ hostNumber (cond (eqb (length b) tablesSize) (Count 0) (Refused (plain EBADF)))
   pub bytes : after ≡ cond (eqb (length b) tablesSize) (tablesBytes fresh) b
 
 -- What the functions inside tell each other.
 
+-- a number is -22
+abbrev pub isInvalid : ℤ → Bool
+isInvalid (pos n) = false
+isInvalid (negsuc n) = eqb n 21
+
 -- the first two rows of every event but the panel query, and what it means to pass them
 pub record BuffersJudged (tables words : List ℕ) (v : Verdict) : Type 0 where
-  pub verdict : v ≡ first (ENXIO when wrongMemory (seen tables words) ∷ EBADF when brokenTables (seen tables words) ∷ [])
+  pub verdict : v ≡ first (firstRows (seen tables words))
   pub held : v ≡ Pass → Held tables
   pub long : v ≡ Pass → length words ≡ memorySize
 

@@ -9,6 +9,8 @@ use layout::WORD_SIZE;
 use layout::check::sound;
 use numbers::u32_at;
 use rules::answer::Errno;
+use rules::answer::Reason;
+use rules::answer::Refusal;
 use rules::answer::Verdict;
 use tables::WORDS;
 
@@ -19,11 +21,17 @@ pub(crate) fn judge_buffers(tables: &[u8], words: &[u8]) -> Verdict
     ensures { λ r. ⌜ BuffersJudged (now (tables .entry)) (now (words .entry)) r ⌝ }
 {
     if words.len() != WORDS_SIZE {
-        return Verdict::Refuse(Errno::ENXIO);
+        return Verdict::Refuse(Refusal {
+            errno: Errno::ENXIO,
+            reason: Reason::NoReason,
+        });
     }
     let ok = sound(tables);
     if !ok {
-        return Verdict::Refuse(Errno::EBADF);
+        return Verdict::Refuse(Refusal {
+            errno: Errno::EBADF,
+            reason: Reason::NoReason,
+        });
     }
     Verdict::Pass
 }

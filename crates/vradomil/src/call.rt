@@ -162,7 +162,7 @@ pub extern "C" fn vradomil_call(
     uaddr2: u32,
     val3: u32,
 ) -> i32
-    ensures { λ r. ⌜ Calls (record { process = process; index = index; op = op; uaddr = uaddr; val = val; flag = flag; timeout = timeout; uaddr2 = uaddr2; val3 = val3 }) (now (tables .entry)) (now (words .entry)) r (now (tables .exit)) (now (words .exit)) ⌝ }
+    ensures { λ r. ⌜ Calls (record { process = process; index = index; op = op; uaddr = uaddr; val = val; flag = flag; timeout = timeout; uaddr2 = uaddr2; val3 = val3 }) (now (tables .entry)) (now (words .entry)) [] r (now (tables .exit)) (now (words .exit)) [] ⌝ }
 {
     let c = Call {
         process: process,
@@ -177,7 +177,10 @@ pub extern "C" fn vradomil_call(
     };
     let v = judge(tables, words, c);
     match v {
-        Verdict::Refuse(x) => refusal(x),
+        Verdict::Refuse(x) => {
+            let e = x.errno;
+            refusal(e)
+        }
         Verdict::Pass => {
             let n = perform(tables, words, c);
             n as i32

@@ -1,6 +1,7 @@
 // Other events: stores, clock events, interrupts and panel queries; and fresh tables.
 ghost use mathlib.Core.Path.{_≡_};
 ghost use mathlib.Core.Bool.{cond, _&&_};
+ghost use mathlib.Core.List.{[]};
 ghost use Prim.Native.Nat.{_<_};
 ghost use lib.ListN.{length};
 ghost use lib.Dec.{leb, ltb};
@@ -26,6 +27,7 @@ use numbers::put_u32;
 use numbers::put_u64;
 use numbers::u64_at;
 use rules::answer::Errno;
+use rules::answer::Reason;
 use rules::answer::Verdict;
 use tables::LastAnswer;
 use tables::PROCESS_BYTES;
@@ -33,6 +35,7 @@ use tables::PROCESSES;
 use tables::State;
 use tables::THREADS;
 use tables::WORD_BYTES;
+use verdicts::invalid;
 use verdicts::no_thread;
 use verdicts::row;
 
@@ -45,17 +48,23 @@ pub extern "C" fn vradomil_store(
     address: u32,
     value: u32,
 ) -> i32
-    ensures { λ r. ⌜ ChangesWords (Store process address value) (now (tables .entry)) (now (words .entry)) r (now (words .exit)) ⌝ }
+    ensures { λ r. ⌜ ChangesWords (Store process address value) (now (tables .entry)) (now (words .entry)) [] r (now (words .exit)) [] ⌝ }
 {
     let v = judge_buffers(tables, words);
     match v {
-        Verdict::Refuse(x) => refusal(x),
+        Verdict::Refuse(x) => {
+            let e = x.errno;
+            refusal(e)
+        }
         Verdict::Pass => {
             let v = row(Errno::EFAULT, PROCESS_BYTES <= address, Verdict::Pass);
-            let v = row(Errno::EINVAL, address % WORD_BYTES != 0, v);
+            let v = invalid(Reason::UaddrUnaligned, address % WORD_BYTES != 0, v);
             let v = row(Errno::ESRCH, PROCESSES <= process as usize, v);
             match v {
-                Verdict::Refuse(x) => refusal(x),
+                Verdict::Refuse(x) => {
+                    let e = x.errno;
+                    refusal(e)
+                }
                 Verdict::Pass => {
                     let i = word_index(process, address);
                     put_u32(words, WORD_SIZE * i, value);
@@ -69,11 +78,14 @@ pub extern "C" fn vradomil_store(
 // A clock event: the clock is set, and the sleepers whose deadline has come end.
 #[no_mangle]
 pub extern "C" fn vradomil_clock(tables: &mut [u8], words: &[u8], time: u64) -> i32
-    ensures { λ r. ⌜ ChangesTables (Clock time) (now (tables .entry)) (now (words .entry)) r (now (tables .exit)) ⌝ }
+    ensures { λ r. ⌜ ChangesTables (Clock time) (now (tables .entry)) (now (words .entry)) [] r (now (tables .exit)) [] ⌝ }
 {
     let v = judge_buffers(tables, words);
     match v {
-        Verdict::Refuse(x) => refusal(x),
+        Verdict::Refuse(x) => {
+            let e = x.errno;
+            refusal(e)
+        }
         Verdict::Pass => {
             let clock = u64_at(tables, CLOCK_AT);
             if time < clock {
@@ -90,11 +102,14 @@ pub extern "C" fn vradomil_clock(tables: &mut [u8], words: &[u8], time: u64) -> 
 // An interrupt of a thread: a sleeper ends.
 #[no_mangle]
 pub extern "C" fn vradomil_interrupt(tables: &mut [u8], words: &[u8], process: u8, index: u8) -> i32
-    ensures { λ r. ⌜ ChangesTables (Interrupt process index) (now (tables .entry)) (now (words .entry)) r (now (tables .exit)) ⌝ }
+    ensures { λ r. ⌜ ChangesTables (Interrupt process index) (now (tables .entry)) (now (words .entry)) [] r (now (tables .exit)) [] ⌝ }
 {
     let v = judge_buffers(tables, words);
     match v {
-        Verdict::Refuse(x) => refusal(x),
+        Verdict::Refuse(x) => {
+            let e = x.errno;
+            refusal(e)
+        }
         Verdict::Pass => {
             if no_thread(process, index) {
                 return refusal(Errno::ESRCH);

@@ -3,3 +3,4 @@ mod answer;
 mod buffers;
 pub mod call;
 pub mod event;
+pub mod report;

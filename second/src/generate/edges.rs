@@ -1,10 +1,12 @@
 //! The edge script: the twelve cases of document 01, its edge numbers, every
-//! refusal and the order between them, and the slips it names.
+//! refusal and the order between them, the slips it names, and the reasons of
+//! document 02.
 
 mod arguments;
 mod broken;
 mod full;
 mod operations;
+mod reasons;
 mod refusals;
 mod slips;
 mod times;
@@ -25,6 +27,7 @@ pub fn script() -> Vec<u8> {
     broken::add(&mut script);
     full::add(&mut script);
     slips::add(&mut script);
+    reasons::add(&mut script);
     script.bytes
 }
 

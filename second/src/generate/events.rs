@@ -83,6 +83,16 @@ fn address(rng: &mut Rng) -> u32 {
     }
 }
 
+/// A second address is an edge more often: what is wrong with it shows only
+/// where the caps and the first address are good.
+fn second_address(rng: &mut Rng) -> u32 {
+    match rng.below(100) {
+        0..=79 => rng.pick(&[0, 4, 8]),
+        80..=87 => rng.pick(GOOD_ADDRESSES),
+        _ => rng.pick(EDGE_ADDRESSES),
+    }
+}
+
 fn value(rng: &mut Rng) -> u32 {
     match rng.below(100) {
         0..=84 => rng.below(4) as u32,
@@ -207,8 +217,8 @@ fn fit_wait(rng: &mut Rng, clock: u64, word: u32, call: &mut Call) {
 }
 
 fn fit_second(rng: &mut Rng, word: u32, call: &mut Call) {
-    call.val = if rng.percent(90) { rng.below(3) as u32 } else { cap(rng) };
-    call.uaddr2 = address(rng);
+    call.val = if rng.percent(80) { rng.below(3) as u32 } else { cap(rng) };
+    call.uaddr2 = second_address(rng);
     call.timeout = if rng.percent(90) { cap(rng) as u64 } else { rng.pick(EDGE_U64) };
     if rng.percent(20) {
         // Only the low 32 bits are the second cap.

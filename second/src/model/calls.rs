@@ -2,9 +2,10 @@
 //! each command does.
 
 use super::{
-    check_lent, thread_number, word_number, Answer, Call, State, CLOCK_BIT, CMP_REQUEUE, EAGAIN,
-    EBUSY, EFAULT, EINVAL, ENOMEM, ENOSYS, ESRCH, ETIMEDOUT, FIRST_BAD_ADDRESS, PRIVATE_BIT,
-    REQUEUE, THREADS, WAIT, WAIT_BITSET, WAKE, WAKE_BITSET, WAKE_OP, WOKEN,
+    check_lent, thread_number, word_number, Answer, Call, Refusal, State, CLOCK_BIT, CMP_REQUEUE,
+    EAGAIN, EBUSY, EFAULT, ENOMEM, ENOSYS, ESRCH, ETIMEDOUT, FIRST_BAD_ADDRESS, FIRST_CAP,
+    MASK_ZERO, PRIVATE_BIT, REQUEUE, SAME_ADDRESS, SECOND_CAP, THREADS, UADDR2_NOT_ALIGNED,
+    UADDR_NOT_ALIGNED, WAIT, WAIT_BITSET, WAKE, WAKE_BITSET, WAKE_OP, WOKEN,
 };
 
 /// The highest cap that a wake may carry.
@@ -25,25 +26,25 @@ enum Command {
 use Command::*;
 
 /// Answers one call. Each line is one row of the table of answers.
-pub fn call(state: &mut State, words: &mut [u32], call: &Call) -> Result<Answer, i32> {
+pub fn call(state: &mut State, words: &mut [u32], call: &Call) -> Result<Answer, Refusal> {
     check_lent(state, words)?; // -6, -9
     let caller = thread_number(call.process, call.index).ok_or(ESRCH)?;
     if state.threads[caller].waiting {
-        return Err(EBUSY);
+        return Err(EBUSY.into());
     }
     let command = known_command(call.op).ok_or(ENOSYS)?;
-    if breaks_argument_rule(command, call) {
-        return Err(EINVAL);
+    if let Some(reason) = broken_argument_rule(command, call) {
+        return Err(Refusal::argument(reason));
     }
-    if any_address_in_use(command, call, |address| address >= FIRST_BAD_ADDRESS) {
-        return Err(EFAULT);
+    if address_beyond(command, call) {
+        return Err(EFAULT.into());
     }
     if command == WakeOp && Operation::of(call.val3).is_none() {
-        return Err(ENOSYS);
+        return Err(ENOSYS.into());
     }
     if let Some(expected) = expected_word(command, call) {
         if words[word_number(call.process, call.uaddr)] != expected {
-            return Err(EAGAIN);
+            return Err(EAGAIN.into());
         }
     }
     if is_wait(command) {
@@ -84,19 +85,33 @@ fn second_cap(call: &Call) -> u32 {
     (call.timeout % (1 << 32)) as u32
 }
 
-fn any_address_in_use(command: Command, call: &Call, test: impl Fn(u32) -> bool) -> bool {
-    test(call.uaddr) || (has_second(command) && test(call.uaddr2))
+fn address_beyond(command: Command, call: &Call) -> bool {
+    call.uaddr >= FIRST_BAD_ADDRESS || (has_second(command) && call.uaddr2 >= FIRST_BAD_ADDRESS)
 }
 
-/// The argument rules (-22). Arguments not in use are not looked at: val is a
+/// The argument rules (-22), in the order of their reasons: the first that is
+/// broken gives the lowest. Arguments not in use are not looked at: val is a
 /// cap for every command but a wait.
-fn breaks_argument_rule(command: Command, call: &Call) -> bool {
-    let cap = !is_wait(command) && call.val > HIGHEST_CAP;
-    let second = has_second(command) && second_cap(call) > HIGHEST_CAP;
-    let mask = matches!(command, WaitBitset | WakeBitset) && call.val3 == 0;
-    let alignment = any_address_in_use(command, call, |address| address % 4 != 0);
-    let same = matches!(command, Requeue | CmpRequeue) && call.uaddr == call.uaddr2;
-    cap || second || mask || alignment || same
+fn broken_argument_rule(command: Command, call: &Call) -> Option<u8> {
+    if !is_wait(command) && call.val > HIGHEST_CAP {
+        return Some(FIRST_CAP);
+    }
+    if has_second(command) && second_cap(call) > HIGHEST_CAP {
+        return Some(SECOND_CAP);
+    }
+    if matches!(command, WaitBitset | WakeBitset) && call.val3 == 0 {
+        return Some(MASK_ZERO);
+    }
+    if call.uaddr % 4 != 0 {
+        return Some(UADDR_NOT_ALIGNED);
+    }
+    if has_second(command) && call.uaddr2 % 4 != 0 {
+        return Some(UADDR2_NOT_ALIGNED);
+    }
+    if matches!(command, Requeue | CmpRequeue) && call.uaddr == call.uaddr2 {
+        return Some(SAME_ADDRESS);
+    }
+    None
 }
 
 /// What the word at uaddr must be, for the commands that compare (-11).
@@ -110,15 +125,20 @@ fn expected_word(command: Command, call: &Call) -> Option<u32> {
 
 /// A wait whose word matched: the deadline is tested, then the list's room,
 /// and only then does the caller join the list.
-fn sleep(state: &mut State, caller: usize, command: Command, call: &Call) -> Result<Answer, i32> {
+fn sleep(
+    state: &mut State,
+    caller: usize,
+    command: Command,
+    call: &Call,
+) -> Result<Answer, Refusal> {
     let deadline = deadline(command, call, state.clock);
     if deadline.is_some_and(|time| time <= state.clock) {
-        return Err(ETIMEDOUT);
+        return Err(ETIMEDOUT.into());
     }
     // Sound tables with a running caller list at most 63, so this one never
     // answers; it stands because the table of answers has it.
     if state.count >= THREADS as u64 {
-        return Err(ENOMEM);
+        return Err(ENOMEM.into());
     }
     let bitset = if command == WaitBitset { call.val3 } else { ALL_ONES };
     state.join(caller, call.uaddr, bitset, deadline);

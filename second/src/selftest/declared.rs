@@ -1,19 +1,23 @@
-//! The rules of document 01 said once more, in another way: refusals as the
-//! table of answers, effects as sets of threads taken from queues. It builds
-//! whole new tables and words, to be compared with what `step` left behind.
+//! The rules of document 01 and request (i) of document 02 said once more, in
+//! another way: refusals as the table of answers, reasons as a set, effects as
+//! sets of threads taken from queues. It builds whole new tables and words, to
+//! be compared with what `step` left behind.
 
-use crate::model::{Answer, Call, Event, State, Thread, THREADS, WORDS};
+use std::collections::BTreeSet;
 
-type Outcome = (Answer, State, Vec<u32>);
+use crate::model::{Answer, Call, Event, Report, State, Thread, THREADS, WORDS};
 
-/// What an event must answer and leave behind.
+type Outcome = (Report, State, Vec<u32>);
+
+/// What an event must report and leave behind.
 pub fn outcome(state: &State, words: &[u32], event: &Event) -> Outcome {
-    let refused = |number| (Answer::Number(number), state.clone(), words.to_vec());
     if let Event::Query { process } = *event {
-        return (panel(state, process), state.clone(), words.to_vec());
+        return (Report::plain(panel(state, process)), state.clone(), words.to_vec());
     }
     if let Some(number) = refusal(state, words, event) {
-        return refused(number);
+        let reason = if number == -22 { lowest_reason(event) } else { 0 };
+        let report = Report { answer: Answer::Number(number), reason };
+        return (report, state.clone(), words.to_vec());
     }
     let (mut after, mut new_words) = (state.clone(), words.to_vec());
     let answer = match *event {
@@ -35,7 +39,7 @@ pub fn outcome(state: &State, words: &[u32], event: &Event) -> Outcome {
         }
         Event::Query { .. } => unreachable!(),
     };
-    (answer, after, new_words)
+    (Report::plain(answer), after, new_words)
 }
 
 fn panel(state: &State, process: u8) -> Answer {
@@ -129,6 +133,49 @@ fn call_refusal(state: &State, words: &[u32], call: &Call) -> Option<i32> {
         (-110, &|| wait && deadline(state, call).is_some_and(|d| d <= state.clock as u128)),
     ];
     rows.iter().find(|(_, applies)| applies()).map(|(number, _)| *number)
+}
+
+/// The lowest of the reasons that apply to an event that is -22. The row of
+/// -22 doesn't use them, so a -22 for which none applies comes to light.
+fn lowest_reason(event: &Event) -> u8 {
+    let applying: BTreeSet<u8> = match *event {
+        Event::Call(ref call) => own_reasons(call.op & !128)
+            .iter()
+            .copied()
+            .filter(|&reason| looks_wrong(call, reason))
+            .collect(),
+        // These two have one argument rule each.
+        Event::Store { .. } => BTreeSet::from([4]),
+        Event::Clock { .. } => BTreeSet::from([7]),
+        _ => BTreeSet::new(),
+    };
+    applying.first().copied().unwrap_or(0)
+}
+
+/// The reasons that a command can have.
+fn own_reasons(command: u32) -> &'static [u8] {
+    match command {
+        0 => &[4],
+        1 => &[1, 4],
+        3 | 4 => &[1, 2, 4, 5, 6],
+        5 => &[1, 2, 4, 5],
+        9 => &[3, 4],
+        10 => &[1, 3, 4],
+        _ => &[],
+    }
+}
+
+/// Whether the argument of a reason is wrong, if it is in use at all. As signed
+/// numbers the caps that are too high are those below 0.
+fn looks_wrong(call: &Call, reason: u8) -> bool {
+    match reason {
+        1 => (call.val as i32) < 0,
+        2 => (call.timeout as i32) < 0,
+        3 => call.val3.count_ones() == 0,
+        4 => call.uaddr / 4 * 4 != call.uaddr,
+        5 => call.uaddr2 / 4 * 4 != call.uaddr2,
+        _ => call.uaddr ^ call.uaddr2 == 0,
+    }
 }
 
 /// The deadline of a wait, in a width where no sum can wrap.

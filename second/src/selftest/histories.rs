@@ -3,7 +3,7 @@
 
 use super::{declared, Checks, Display};
 use crate::generate::{events, tables};
-use crate::model::{Answer, Event, THREADS_PER_PROCESS, WORDS, WORDS_PER_PROCESS};
+use crate::model::{Event, Report, THREADS_PER_PROCESS, WORDS, WORDS_PER_PROCESS};
 use crate::rng::Rng;
 
 pub fn run(checks: &mut Checks) {
@@ -29,8 +29,8 @@ fn against_declared(checks: &mut Checks, seed: u64) {
     for _ in 0..200 {
         let event = events::next(&mut rng, &display.state, &display.words);
         let want = declared::outcome(&display.state, &display.words, &event);
-        let got = display.answer(event);
-        checks.equal(&format!("declared answer, {event:?}"), got, want.0);
+        let got = display.report(event);
+        checks.equal(&format!("declared report, {event:?}"), got, want.0);
         checks.holds("declared tables", display.state == want.1);
         checks.holds("declared words", display.words == want.2);
         checks.holds("rules hold", display.state.rules_hold());
@@ -55,30 +55,30 @@ fn isolation(checks: &mut Checks, seed: u64) {
     let mut first = strangers_words(&mut rng, process);
     let mut second = strangers_words(&mut rng, process);
     let mut kept = Vec::new();
-    let mut first_answers = Vec::new();
+    let mut first_reports = Vec::new();
     for _ in 0..300 {
         let event = events::next(&mut rng, &first.state, &first.words);
-        let answer = first.answer(event);
+        let report = first.report(event);
         if !struck(&event, process) {
             kept.push(event);
-            note(&mut first_answers, &event, answer);
+            note(&mut first_reports, &event, report);
         }
     }
-    let mut second_answers = Vec::new();
+    let mut second_reports = Vec::new();
     for event in &kept {
         others_act(&mut rng, &mut second, process);
-        let answer = second.answer(*event);
-        note(&mut second_answers, event, answer);
+        let report = second.report(*event);
+        note(&mut second_reports, event, report);
     }
     others_act(&mut rng, &mut second, process);
-    checks.holds("demand 3, answers", first_answers == second_answers);
+    checks.holds("demand 3, reports", first_reports == second_reports);
     checks.holds("demand 3, end", view(&first, process) == view(&second, process));
 }
 
 /// A clock event's count is no process's answer.
-fn note(answers: &mut Vec<Answer>, event: &Event, answer: Answer) {
+fn note(reports: &mut Vec<Report>, event: &Event, report: Report) {
     if !matches!(event, Event::Clock { .. }) {
-        answers.push(answer);
+        reports.push(report);
     }
 }
 
@@ -114,20 +114,27 @@ fn view(display: &Display, process: u8) -> View {
     (words, format!("{:?}", &display.state.threads[own]), order)
 }
 
-/// The histories are worth running only if each answer comes up.
+/// The histories are worth running only if each answer and each reason comes
+/// up.
 fn frequent(checks: &mut Checks) {
     let mut rng = Rng::new(99);
     let mut display = Display::fresh();
     let mut seen = std::collections::BTreeMap::new();
+    let mut reasons = [0; 8];
     for round in 0..20000 {
         if round % 500 == 0 {
             display.state = tables::sound(&mut rng);
         }
         let event = events::next(&mut rng, &display.state, &display.words);
-        *seen.entry(display.text(event)).or_insert(0) += 1;
+        let report = display.report(event);
+        *seen.entry(report.answer.to_string()).or_insert(0) += 1;
+        reasons[report.reason as usize] += 1;
     }
     for answer in ["asleep", "-3", "-16", "-38", "-22", "-14", "-11", "-110", "0", "1", "2", "3"] {
         let times = seen.get(answer).copied().unwrap_or(0);
         checks.holds(&format!("{answer} is frequent, {times}"), times >= 50);
+    }
+    for (reason, times) in reasons.into_iter().enumerate() {
+        checks.holds(&format!("reason {reason} is frequent, {times}"), times >= 50);
     }
 }

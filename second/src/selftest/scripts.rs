@@ -28,7 +28,8 @@ fn printed(bytes: &[u8]) -> String {
 
 fn printing(checks: &mut Checks) {
     let mut script = Script::default();
-    script.events(&[s::store(0, 8, 5), s::wait_for((0, 1), 8, 5, 9), s::query(0)]);
+    script.events(&[s::store(0, 8, 5), s::wait_for((0, 1), 8, 5, 9), s::store(0, 9, 5)]);
+    script.event(s::query(0));
     script.word(0, 8);
     script.word(8, 0);
     script.word(255, u32::MAX);
@@ -37,7 +38,8 @@ fn printing(checks: &mut Checks) {
     script.dump();
     let list = "list 0:1";
     let thread = "thread 1 1 8 4294967295 1 9 0";
-    let want = format!("0\nasleep\n2 1 1\n5\n0\n0\n-6\nclock 0 count 1\n{list}\n{thread}\n");
+    let want =
+        format!("0\nasleep\n-22 reason 4\n2 1 1\n5\n0\n0\n-6\nclock 0 count 1\n{list}\n{thread}\n");
     checks.equal("printing", printed(&script.bytes), want);
     checks.equal("empty script", printed(&[]), String::new());
 }
@@ -89,8 +91,8 @@ fn holds_throughout(checks: &mut Checks, name: &str, bytes: &[u8]) {
         };
         let mut out = Vec::new();
         checks.holds(name, machine.apply(&record, &mut out).is_ok());
-        if let Some((answer, state, words)) = want {
-            checks.equal(name, String::from_utf8_lossy(&out).as_ref(), &format!("{answer}\n"));
+        if let Some((report, state, words)) = want {
+            checks.equal(name, String::from_utf8_lossy(&out).as_ref(), &format!("{report}\n"));
             let same = machine.state == state && machine.memory[..machine.lent] == words[..];
             checks.holds(name, same);
         }

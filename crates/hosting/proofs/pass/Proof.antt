@@ -1,45 +1,10 @@
-use mathlib.Core.Path.{_≡_, refl, sym, ap, subst₂, _∙_}
-use mathlib.Core.Bool.{true, false}
-use mathlib.Core.List.{List}
-use Prim.Native.Nat.{ℕ, _^_, _<_}
-use lib.IntN.{ℤ, pos}
-use lib.Signed.{mag}
-use mir.Syntax.{w32, w64}
-use mir.Val.{hbits, SFits, toZ, ofZ}
-use mir.Facts.{sfits-toZ, sfits-widen, fits-ofZ, toZ-ofZ, toZ-pos}
+use mathlib.Core.Path.{refl}
+use mir.Syntax.{w64}
+use mir.Facts.{toZ-pos}
 use borrow.Author.Needs.{needs}
-use Rattle.rules.specs.declared.event.Call.{Call}
-use Rattle.rules.specs.declared.event.Event.{Event}
-use Rattle.rules.specs.declared.event.Event.the-variants.{Call as CallEvent, Store, Query}
-use Rattle.vradomil.specs.Host.{seen, hostNumber, Calls, ChangesWords, ChangesTables, Shows}
-use Rattle.hosting.proofs.Hosting.{shown}
-use Rattle.hosting.specs.Hosts.{Hosted, touchesTables, touchesWords}
+use Rattle.hosting.proofs.Passing.{wide, back, by-call, by-words, by-tables, by-query, of-event}
 use Rattle.hosting.proofs.pass.Statement.{statement}
 use Rattle.hosting.proofs.pass.Tie as tie
-
--- a signed number of 32 bits fits 64, and is read back as it was stored
-wide : (z : ℤ) → mag z < 2 ^ hbits w32 → SFits w64 (toZ w32 (ofZ w32 z))
-wide z h = sfits-widen {w = w32} tt (sfits-toZ (fits-ofZ {z = z} (record { sfits = h })))
-
-back : (z : ℤ) → mag z < 2 ^ hbits w32 → toZ w64 (ofZ w64 (toZ w32 (ofZ w32 z))) ≡ z
-back z h = toZ-ofZ (wide z h) ∙ toZ-ofZ {z = z} (record { sfits = h })
-
--- what each kind of entry point ensures
-by-call : {c : Call} {b m b1 m1 : List ℕ} {r : ℤ} → Calls c b m r b1 m1 → Hosted (CallEvent c) b m r b1 m1
-by-call h = record { number = h .number; tables = h .tables; words = h .words; fits = h .fits }
-
-by-words : {p a v : ℕ} {b m m1 : List ℕ} {r : ℤ} → ChangesWords (Store p a v) b m r m1 → Hosted (Store p a v) b m r b m1
-by-words h = record { number = h .number; tables = refl; words = h .bytes; fits = h .fits }
-
-by-tables : {e : Event} {b m b1 : List ℕ} {r : ℤ} → touchesTables e ≡ true → touchesWords e ≡ false → ChangesTables e b m r b1 → Hosted e b m r b1 m
-by-tables t w h = record { number = h .number; tables = rw t (h .bytes); words = rw w; fits = h .fits }
-
-by-query : {p n : ℕ} {b m : List ℕ} → Shows p b n → Hosted (Query p) b m (pos n) b m
-by-query {p} {n} {b} {m} h = record { number = ap pos (h .number) ∙ ap hostNumber (sym (shown p (seen b m))); tables = refl; words = refl; fits = h .fits }
-
--- an event that was matched on, with the number that came back
-of-event : {e d : Event} {b m b1 m1 : List ℕ} {r z : ℤ} → e ≡ d → z ≡ r → Hosted d b m r b1 m1 → Hosted e b m z b1 m1
-of-event {b = b} {m} {b1} {m1} is same h = subst₂ (λ x y. Hosted x b m y b1 m1) (sym is) (sym same) h
 
 enum-known-e : tie.Need-enum-known-e
 enum-known-e c = search needs
@@ -118,7 +83,7 @@ same-length-6 c = search needs
 returns-3 : tie.Need-returns-3
 returns-3 c =
     let v = c .before .before in
-    of-event (v .before .before .before .before .e3 .given .1) (back (v .vradomil-clock .result) (v .vradomil-clock .ok)) (by-tables refl refl (v .vradomil-clock .ensures))
+    of-event (v .before .before .before .before .e3 .given .1) (back (v .vradomil-clock .result) (v .vradomil-clock .ok)) (by-tables refl refl refl (v .vradomil-clock .ensures))
 
 same-length-7 : tie.Need-same-length-7
 same-length-7 c = search needs
@@ -129,7 +94,7 @@ same-length-8 c = search needs
 returns-4 : tie.Need-returns-4
 returns-4 c =
     let v = c .before .before in
-    of-event (v .before .before .before .before .e4 .given .1) (back (v .vradomil-interrupt .result) (v .vradomil-interrupt .ok)) (by-tables refl refl (v .vradomil-interrupt .ensures))
+    of-event (v .before .before .before .before .e4 .given .1) (back (v .vradomil-interrupt .result) (v .vradomil-interrupt .ok)) (by-tables refl refl refl (v .vradomil-interrupt .ensures))
 
 same-length-9 : tie.Need-same-length-9
 same-length-9 c = search needs

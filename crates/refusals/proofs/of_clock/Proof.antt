@@ -3,15 +3,15 @@ use borrow.Author.Needs.{needs}
 use Rattle.refusals.proofs.of_clock.Statement.{statement}
 use Rattle.refusals.proofs.of_clock.Tie as tie
 
-row-requires : tie.Need-row-requires
-row-requires c κs = search needs
+invalid-requires : tie.Need-invalid-requires
+invalid-requires c κs = search needs
 
 tested-requires : tie.Need-tested-requires
 tested-requires c κs = search needs
 
 returns : tie.Need-returns
 unfolding refusals
-returns c = rw (c .tested .ensures, c .before .row .ensures)
+returns c = rw (c .tested .ensures, c .before .invalid .ensures)
 
 pub of-clock-spec : {M : Type 1} → statement M
-of-clock-spec = tie.close (tie.spec row-requires tested-requires returns)
+of-clock-spec = tie.close (tie.spec invalid-requires tested-requires returns)

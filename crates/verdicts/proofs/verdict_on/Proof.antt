@@ -1,5 +1,15 @@
 use borrow.Author.Needs.{needs}
-use Rattle.rules.specs.Calls.{callRows}
+use mathlib.Core.Path.{sym}
+use mathlib.Core.Bool.{_&&_}
+use mathlib.Core.List.{List, [], _∷_}
+use Prim.Native.Nat.{ℕ}
+use Rattle.rules.specs.declared.event.Call.{Call}
+use Rattle.rules.specs.declared.answer.Errno.the-variants.{ENOSYS, EFAULT, EAGAIN, ETIMEDOUT, ENOMEM}
+use Rattle.rules.specs.Answers.{Row, _when_}
+use Rattle.rules.specs.WakeOp.{undefinedOp}
+use Rattle.rules.specs.Commands.{commandOf}
+use Rattle.rules.specs.Calls.{argumentRows, badAddress, isWakeOp, differs, late, full, callRows}
+use Rattle.rules.proofs.Rows.{first-or}
 use Rattle.verdicts.proofs.verdict_on.Statement.{statement}
 use Rattle.verdicts.proofs.verdict_on.Tie as tie
 
@@ -33,41 +43,49 @@ bad-address-requires c κs = search needs
 row-requires-5 : tie.Need-row-requires-5
 row-requires-5 c κs = search needs
 
-bad-argument-requires : tie.Need-bad-argument-requires
-bad-argument-requires c κs = search needs
-
-row-requires-6 : tie.Need-row-requires-6
-row-requires-6 c κs = search needs
+arguments-requires : tie.Need-arguments-requires
+arguments-requires c κs = search needs
 
 not-implemented-requires : tie.Need-not-implemented-requires
 not-implemented-requires c κs = search needs
 
+row-requires-6 : tie.Need-row-requires-6
+row-requires-6 c κs = search needs
+
 row-requires-7 : tie.Need-row-requires-7
 row-requires-7 c κs = search needs
-
-row-requires-8 : tie.Need-row-requires-8
-row-requires-8 c κs = search needs
 
 no-thread-requires : tie.Need-no-thread-requires
 no-thread-requires c κs = search needs
 
-row-requires-9 : tie.Need-row-requires-9
-row-requires-9 c κs = search needs
+row-requires-8 : tie.Need-row-requires-8
+row-requires-8 c κs = search needs
+
+-- the rows behind those for -22
+abbrev behind : Call → ℕ → ℕ → ℕ → List Row
+behind c now count word =
+    let k = commandOf (c .op) in
+    EFAULT when badAddress k c
+    ∷ ENOSYS when (isWakeOp k && undefinedOp (c .val3))
+    ∷ EAGAIN when differs k c word
+    ∷ ETIMEDOUT when late k c now
+    ∷ ENOMEM when full count
+    ∷ []
 
 returns : tie.Need-returns
 unfolding callRows
 returns c =
-    let k = c .before .before .before .before .before .before .before .before .before in
+    let k = c .before .before .before .before .before .before .before .before in
+    let g = k .before .before .before .before .before .before .before .before .before .before .args in
     rw (
-      c .row9 .ensures,
+      c .row8 .ensures,
       c .before .no-thread .ensures,
-      c .before .before .row8 .ensures,
-      c .before .before .before .row7 .ensures,
+      c .before .before .row7 .ensures,
+      c .before .before .before .row6 .ensures,
       c .before .before .before .before .not-implemented .ensures,
-      c .before .before .before .before .before .row6 .ensures,
-      c .before .before .before .before .before .before .bad-argument .ensures,
-      c .before .before .before .before .before .before .before .row5 .ensures,
-      c .before .before .before .before .before .before .before .before .bad-address .ensures,
+      c .before .before .before .before .before .arguments .ensures,
+      c .before .before .before .before .before .before .row5 .ensures,
+      c .before .before .before .before .before .before .before .bad-address .ensures,
       k .row4 .ensures,
       k .before .before .before .before .before .before .before .before .before .uses-by .ensures,
       k .before .before .before .before .before .before .before .before .undefined-op .ensures,
@@ -76,6 +94,7 @@ returns c =
       k .before .before .before .before .before .row2 .ensures,
       k .before .before .before .before .before .before .late .ensures,
       k .before .before .before .before .before .before .before .row .ensures,
+      sym (first-or (argumentRows (commandOf (g .c .op)) (g .c)) (behind (g .c) (g .now) (g .count) (g .word))),
     )
 
 pub verdict-on-spec : {M : Type 1} → statement M
@@ -92,11 +111,10 @@ verdict-on-spec =
     row-requires-4
     bad-address-requires
     row-requires-5
-    bad-argument-requires
-    row-requires-6
+    arguments-requires
     not-implemented-requires
+    row-requires-6
     row-requires-7
-    row-requires-8
     no-thread-requires
-    row-requires-9
+    row-requires-8
     returns)

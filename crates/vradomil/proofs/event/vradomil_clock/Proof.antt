@@ -8,11 +8,12 @@ use mir.Syntax.{w32}
 use Rattle.rules.specs.declared.event.Event.{Event}
 use Rattle.tables.specs.declared.State.{State}
 use Rattle.rules.specs.declared.answer.Errno.the-variants.{EINVAL}
+use Rattle.rules.specs.declared.answer.Reason.the-variants.{ClockBack}
 use Rattle.rules.specs.declared.answer.Verdict.the-variants.{Refuse, Pass}
 use Rattle.tables.specs.Sizes.{threads}
 use Rattle.tables.specs.Steps.{flagged, endFirst}
 use Rattle.tables.proofs.Sound.{Sound, tables-sound}
-use Rattle.rules.specs.Answers.{first}
+use Rattle.rules.specs.Answers.{_because_, first}
 use Rattle.rules.specs.Events.{refusals, effect, clockEffect}
 use Rattle.tables.specs.Tables.{world}
 use Rattle.layout.specs.Layout.{tablesAt, stateAt, wordsAt}
@@ -55,7 +56,7 @@ clock c =
 
 own : (c : tie.After-enum-told)
     → let g = start (c .before .before) in
-    first (refusals (event g) (seen (now (g .args .tables)) (now (g .args .words)))) ≡ cond (ltb (g .args .time) (tablesAt (now (g .args .tables)) .clock)) (Refuse EINVAL) Pass
+    first (refusals (event g) (seen (now (g .args .tables)) (now (g .args .words)))) ≡ cond (ltb (g .args .time) (tablesAt (now (g .args .tables)) .clock)) (Refuse (EINVAL because ClockBack)) Pass
 own c =
     let l = c .before .before in
     let g = start l in
@@ -97,7 +98,7 @@ returns c =
     let g = start l in
     let b = now (g .args .tables) in
     let early : ltb (g .args .time) (tablesAt b .clock) ≡ true = sym (ap (ltb (g .args .time)) (clock k)) ∙ lt-ltb (g .args .time) (k .u64-at .result) (c .before .if1 .taken) in
-    changes-tables-refused (event g) b (now (g .args .words)) _ EINVAL (own p ∙ rw early)
+    changes-tables-refused (event g) b (now (g .args .words)) _ (EINVAL because ClockBack) (own p ∙ rw early)
     (read-back (c .refusal2 .ensures)) (fits g)
 
 expired-requires : tie.Need-expired-requires

@@ -16,7 +16,7 @@ use Rattle.tables.specs.Sizes.{threads}
 use Rattle.tables.specs.Tables.{world, threadNumber}
 use Rattle.tables.specs.Steps.{flagged, endFirst}
 use Rattle.tables.proofs.Sound.{Sound, tables-sound}
-use Rattle.rules.specs.Answers.{first, answered}
+use Rattle.rules.specs.Answers.{plain, first, answered}
 use Rattle.rules.specs.Calls.{noThread}
 use Rattle.rules.specs.Events.{refusals, interruptEffect, effect}
 use Rattle.rules.proofs.Passed.{thread-process, thread-index}
@@ -52,7 +52,7 @@ one x = set (replicate threads false) x true
 
 own : (c : tie.After-enum-told)
     → let g = start (c .before .before) in
-    first (refusals (event g) (seen (now (g .args .tables)) (now (g .args .words)))) ≡ cond (noThread (g .args .process) (g .args .index)) (Refuse ESRCH) Pass
+    first (refusals (event g) (seen (now (g .args .tables)) (now (g .args .words)))) ≡ cond (noThread (g .args .process) (g .args .index)) (Refuse (plain ESRCH)) Pass
 own c =
     let l = c .before .before in
     let g = start l in
@@ -91,7 +91,7 @@ returns c =
     let n = c .before .before in
     let p = n .before in
     let g = start (p .before .before) in
-    changes-tables-refused (event g) (now (g .args .tables)) (now (g .args .words)) _ ESRCH (own p ∙ rw (sym (n .no-thread .ensures) ∙ c .before .if1 .taken))
+    changes-tables-refused (event g) (now (g .args .tables)) (now (g .args .words)) _ (plain ESRCH) (own p ∙ rw (sym (n .no-thread .ensures) ∙ c .before .if1 .taken))
     (read-back (c .refusal2 .ensures)) (fits g)
 
 thread-index-requires : tie.Need-thread-index-requires

@@ -9,10 +9,11 @@ use borrow.Author.Tests.{leb-false}
 use Rattle.lists.specs.LittleEndian.{Bytes}
 use Rattle.rules.specs.declared.event.Event.the-variants.{Store}
 use Rattle.rules.specs.declared.answer.Errno.the-variants.{ESRCH, EINVAL}
+use Rattle.rules.specs.declared.answer.Reason.the-variants.{UaddrUnaligned}
 use Rattle.rules.specs.declared.answer.Verdict.the-variants.{Refuse}
 use Rattle.tables.specs.Sizes.{processes, bytesPerProcess, memoryWords}
 use Rattle.tables.specs.Tables.{aligned, writeWord}
-use Rattle.rules.specs.Answers.{first}
+use Rattle.rules.specs.Answers.{_because_, plain, first}
 use Rattle.rules.specs.Calls.{noProcess}
 use Rattle.rules.specs.Events.{ownRows, refusals, effect}
 use Rattle.rules.proofs.Rows.{pass-clear}
@@ -34,12 +35,12 @@ event g = Store (g .args .process) (g .args .address) (g .args .value)
 fits : (g : tie.Start) → EventFits (event g)
 fits g = search needs
 
-own-verdict : (c : tie.After-row3) → let g = start (c .before .before .before .before .before) in c .row3 .result ≡ first (ownRows (event g) (seen (now (g .args .tables)) (now (g .args .words))))
+own-verdict : (c : tie.After-row2) → let g = start (c .before .before .before .before .before) in c .row2 .result ≡ first (ownRows (event g) (seen (now (g .args .tables)) (now (g .args .words))))
 own-verdict c =
     let g = start (c .before .before .before .before .before) in
-    c .row3 .ensures ∙ ap (cond (noProcess (g .args .process)) (Refuse ESRCH)) (c .before .row2 .ensures ∙ ap (cond (not (aligned (g .args .address))) (Refuse EINVAL)) (c .before .before .row .ensures))
+    c .row2 .ensures ∙ ap (cond (noProcess (g .args .process)) (Refuse (plain ESRCH))) (c .before .invalid .ensures ∙ ap (cond (not (aligned (g .args .address))) (Refuse (EINVAL because UaddrUnaligned))) (c .before .before .row .ensures))
 
-verdict : (c : tie.After-row3) → let g = start (c .before .before .before .before .before) in c .row3 .result ≡ first (refusals (event g) (seen (now (g .args .tables)) (now (g .args .words))))
+verdict : (c : tie.After-row2) → let g = start (c .before .before .before .before .before) in c .row2 .result ≡ first (refusals (event g) (seen (now (g .args .tables)) (now (g .args .words))))
 verdict c =
     let l = c .before .before .before .before .before in
     let g = start l in
@@ -60,11 +61,11 @@ enum-told c = search needs
 row-requires : tie.Need-row-requires
 row-requires c κs = search needs
 
+invalid-requires : tie.Need-invalid-requires
+invalid-requires c κs = search needs
+
 row-requires-2 : tie.Need-row-requires-2
 row-requires-2 c κs = search needs
-
-row-requires-3 : tie.Need-row-requires-3
-row-requires-3 c κs = search needs
 
 enum-known-v-2 : tie.Need-enum-known-v-2
 enum-known-v-2 c = search needs
@@ -130,6 +131,7 @@ returns-3 c =
       number = number-passed (event g) b m _ h refl;
       bytes = words-passed (event g) b m _ h refl _
           (p .put-u32 .ensures ∙ word-written memoryWords m (i .word-index .result) (g .args .value) long low (word-below _ _ (i .word-index .ensures)) ∙ ap (λ x. wordsBytes (set (wordsAt m) x (g .args .value))) at);
+      report = refl;
       fits = fits g;
     }
 
@@ -142,8 +144,8 @@ vradomil-store-spec =
     refusal-requires
     enum-told
     row-requires
+    invalid-requires
     row-requires-2
-    row-requires-3
     enum-known-v-2
     refusal-requires-2
     enum-told-2
