@@ -2,7 +2,8 @@
 ghost use mathlib.Core.Path.{_≡_};
 ghost use lib.ListN.{getD};
 ghost use Rattle.rules.specs.declared.event.Event.the-variants.{Call as CallEvent, Store, Clock, Interrupt};
-ghost use Rattle.rules.specs.Answers.{first, firstOr};
+ghost use Rattle.rules.specs.declared.answer.Verdict.the-variants.{Refuse};
+ghost use Rattle.rules.specs.Answers.{byRows, first};
 ghost use Rattle.rules.specs.Calls.{firstRows};
 ghost use Rattle.rules.specs.Events.{refusals};
 ghost use Rattle.tables.specs.Tables.{world};
@@ -25,7 +26,7 @@ use verdicts::verdict_on;
 
 // The rows of the memory and the tables, before the rows below them.
 fn tested(s: State, words: &[u32], below: Verdict) -> Verdict
-    ensures { λ r. ⌜ r ≡ firstOr (firstRows (world s (now (words .entry)))) below ⌝ }
+    ensures { λ r. ⌜ r ≡ byRows Refuse (firstRows (world s (now (words .entry)))) below ⌝ }
 {
     let sound = tables_ok(s);
     let v = row(Errno::EBADF, !sound, below);

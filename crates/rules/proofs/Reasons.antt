@@ -23,7 +23,7 @@ use Rattle.rules.specs.declared.answer.Answer.{Answer}
 use Rattle.rules.specs.declared.answer.Answer.the-variants.{Asleep, Count, Refused, Waiting}
 use Rattle.tables.specs.Sizes.{wordBytes, wordLimit, maxCap}
 use Rattle.tables.specs.Tables.{World, aligned}
-use Rattle.rules.specs.Answers.{Row, errnoNumber, reasonNumber, reasonOf, answerNumbers, first, isRefused, reasonIn}
+use Rattle.rules.specs.Answers.{Row, errnoNumber, reasonNumber, reasonOf, answerNumbers, isMinus22, first, reasonAmong, isRefused}
 use Rattle.rules.specs.Commands.{commandOf, uses}
 use Rattle.rules.specs.Calls.{argumentRows, callRows}
 use Rattle.rules.specs.Events.{refusals, effect, step}
@@ -163,18 +163,17 @@ same-reason : (q r : Reason) → reasonNumber q ≡ reasonNumber r → q ≡ r
 same-reason q r h = sym (number-back q) ∙ ap numbered h ∙ number-back r
 
 -- An answer is -22 where it refuses with EINVAL.
-abbrev pub isMinus22 : Answer → Bool
-isMinus22 Asleep = false
-isMinus22 (Count n) = false
-isMinus22 (Refused x) = isInvalid (x .errno)
-isMinus22 (Waiting v) = false
+abbrev pub refuses22 : Answer → Bool
+refuses22 Asleep = false
+refuses22 (Count n) = false
+refuses22 (Refused x) = isInvalid (x .errno)
+refuses22 (Waiting v) = false
 
 abbrev is22 : List ℤ → Bool
 is22 [] = false
-is22 (pos n ∷ l) = false
-is22 (negsuc n ∷ l) = eqb n 21
+is22 (z ∷ l) = isMinus22 z
 
-errno-22 : (x : Errno) → is22 (negℤ (pos (errnoNumber x)) ∷ []) ≡ isInvalid x
+pub errno-22 : (x : Errno) → isMinus22 (negℤ (pos (errnoNumber x))) ≡ isInvalid x
 errno-22 ENXIO = refl
 errno-22 EBADF = refl
 errno-22 ESRCH = refl
@@ -186,17 +185,17 @@ errno-22 EAGAIN = refl
 errno-22 ETIMEDOUT = refl
 errno-22 ENOMEM = refl
 
-only-22 : (z : ℤ) → is22 (z ∷ []) ≡ true → z ∷ [] ≡ negℤ (pos 22) ∷ []
+only-22 : (z : ℤ) → isMinus22 z ≡ true → z ∷ [] ≡ negℤ (pos 22) ∷ []
 only-22 (pos n) h = clash true refl (sym h)
 only-22 (negsuc n) h = ap (λ k. negsuc k ∷ []) (eqb-true n 21 h)
 
-numbers-22 : (a : Answer) → answerNumbers a ≡ negℤ (pos 22) ∷ [] → isMinus22 a ≡ true
+numbers-22 : (a : Answer) → answerNumbers a ≡ negℤ (pos 22) ∷ [] → refuses22 a ≡ true
 numbers-22 Asleep h = ap is22 h
 numbers-22 (Count n) h = ap is22 h
 numbers-22 (Refused x) h = sym (errno-22 (x .errno)) ∙ ap is22 h
 numbers-22 (Waiting v) h = ap is22 h
 
-minus-22 : (a : Answer) → isMinus22 a ≡ true → answerNumbers a ≡ negℤ (pos 22) ∷ []
+minus-22 : (a : Answer) → refuses22 a ≡ true → answerNumbers a ≡ negℤ (pos 22) ∷ []
 minus-22 Asleep h = clash true refl (sym h)
 minus-22 (Count n) h = clash true refl (sym h)
 minus-22 (Refused x) h = only-22 (negℤ (pos (errnoNumber (x .errno)))) (errno-22 (x .errno) ∙ h)
@@ -209,13 +208,13 @@ first-all f (q ∷ rs) h x r = cases (q .applies)
     (λ e. let same : q .refusal ≡ x = cc in (q .applies, subst (λ y. f (record { refusal = y; applies = q .applies }) ≡ true) same (and-left _ (all f rs) h)))
     (λ e. first-all f rs (and-right (f q) _ h) x (cc))
 
-not-refused : (a : Answer) → isRefused a ≡ false → hasReason (reasonOf a) ≡ isMinus22 a
+not-refused : (a : Answer) → isRefused a ≡ false → hasReason (reasonOf a) ≡ refuses22 a
 not-refused Asleep h = refl
 not-refused (Count n) h = refl
 not-refused (Refused x) h = clash true refl h
 not-refused (Waiting v) h = refl
 
-reason-with-22 : (e : Event) (w : World) → hasReason (reasonOf (step e w .answer)) ≡ isMinus22 (step e w .answer)
+reason-with-22 : (e : Event) (w : World) → hasReason (reasonOf (step e w .answer)) ≡ refuses22 (step e w .answer)
 reason-with-22 e w = verdicts e w
     (λ x r. rw (step-refused e w x r) (beq-true (hasReason (x .reason)) (isInvalid (x .errno)) (first-all fitting (refusals e w) (table-fitting e w) x r .1)))
     (λ r. rw (step-clear e w r) (not-refused (effect e w .answer) (granted e w r)))
@@ -223,14 +222,14 @@ reason-with-22 e w = verdicts e w
 pub reason-none : (e : Event) (w : World) → (reasonOf (step e w .answer) ≡ NoReason) ↔ (answerNumbers (step e w .answer) ≡ negℤ (pos 22) ∷ [] → ⊥)
 reason-none e w =
     let a = step e w .answer in (
-      (λ h n. clash (isMinus22 a) (numbers-22 a n) (sym (reason-with-22 e w) ∙ ap hasReason h)),
-      (λ h. cases (isMinus22 a)
+      (λ h n. clash (refuses22 a) (numbers-22 a n) (sym (reason-with-22 e w) ∙ ap hasReason h)),
+      (λ h. cases (refuses22 a)
           (λ on. absurd (h (minus-22 a on)))
           (λ off. same-reason (reasonOf a) NoReason (eqb-true (reasonNumber (reasonOf a)) 0 (not-false _ (reason-with-22 e w ∙ off))))),
     )
 
 -- The reason of an answer that is -22: a fault of the event, and the lowest that it has.
-refused-22 : (e : Event) (w : World) (a : Answer) → step e w .answer ≡ a → isMinus22 a ≡ true
+refused-22 : (e : Event) (w : World) (a : Answer) → step e w .answer ≡ a → refuses22 a ≡ true
     → (x : Refusal) × (first (invalid (refusals e w)) ≡ Refuse x) × (reasonOf a ≡ x .reason)
 refused-22 e w Asleep is h = clash true refl (sym h)
 refused-22 e w (Count n) is h = clash true refl (sym h)
@@ -238,41 +237,49 @@ refused-22 e w (Refused x) is h = (x, first-invalid (refusals e w) x (refused-ro
 refused-22 e w (Waiting v) is h = clash true refl (sym h)
 
 -- So a number that is -22 and the event alone tell the reason: of a call its arguments, of a store and of the clock there is but one.
-pub reason-told : (e : Event) (w : World) (wrong : Reason) → (isMinus22 (step e w .answer) ≡ true → reasonOf (step e w .answer) ≡ wrong)
-    → cond (isMinus22 (step e w .answer)) wrong NoReason ≡ reasonOf (step e w .answer)
+pub reason-told : (e : Event) (w : World) (wrong : Reason) → (refuses22 (step e w .answer) ≡ true → reasonOf (step e w .answer) ≡ wrong)
+    → cond (refuses22 (step e w .answer)) wrong NoReason ≡ reasonOf (step e w .answer)
 reason-told e w wrong h =
     let a = step e w .answer in
-    cases (isMinus22 a)
+    cases (refuses22 a)
     (λ on. rw on (sym (h on)))
-    (λ off. rw off (sym (reason-none e w .1 (λ n. clash (isMinus22 a) (numbers-22 a n) off))))
+    (λ off. rw off (sym (reason-none e w .1 (λ n. clash (refuses22 a) (numbers-22 a n) off))))
 
-pub call-reason : (c : Call) (w : World) → isMinus22 (step (CallEvent c) w .answer) ≡ true
-    → reasonOf (step (CallEvent c) w .answer) ≡ reasonIn (first (argumentRows (commandOf (c .op)) c))
+among-first : (rs : List Row) (x : Refusal) → first rs ≡ Refuse x → reasonAmong rs ≡ x .reason
+among-first [] x h = not-pass (sym h)
+among-first (r ∷ rs) x h = cases (r .applies)
+    (λ e. let same : r .refusal ≡ x = cc in rw (e, same))
+    (λ e. rw e (among-first rs x (cc)))
+
+pub call-reason : (c : Call) (w : World) → refuses22 (step (CallEvent c) w .answer) ≡ true
+    → reasonOf (step (CallEvent c) w .answer) ≡ reasonAmong (argumentRows (commandOf (c .op)) c)
 unfolding refusals callRows argumentRows
-call-reason c w h = let by = refused-22 (CallEvent c) w (step (CallEvent c) w .answer) refl h in by .2 ∙ ap reasonIn (sym (by .1))
+call-reason c w h =
+    let by = refused-22 (CallEvent c) w (step (CallEvent c) w .answer) refl h in
+    by .2 ∙ sym (among-first (argumentRows (commandOf (c .op)) c) (by .0) (by .1))
 
-one-reason : (e : Event) (w : World) (r : Reason) → Each (λ q. q ≡ r) (invalid (refusals e w)) → isMinus22 (step e w .answer) ≡ true
+one-reason : (e : Event) (w : World) (r : Reason) → Each (λ q. q ≡ r) (invalid (refusals e w)) → refuses22 (step e w .answer) ≡ true
     → reasonOf (step e w .answer) ≡ r
 one-reason e w r each h =
     let by = refused-22 e w (step e w .answer) refl h in
     by .2 ∙ first-tells (λ q. q ≡ r) (invalid (refusals e w)) each (by .0) (by .1)
 
-pub store-reason : (p a v : ℕ) (w : World) → isMinus22 (step (Store p a v) w .answer) ≡ true → reasonOf (step (Store p a v) w .answer) ≡ UaddrUnaligned
+pub store-reason : (p a v : ℕ) (w : World) → refuses22 (step (Store p a v) w .answer) ≡ true → reasonOf (step (Store p a v) w .answer) ≡ UaddrUnaligned
 unfolding refusals
 store-reason p a v w = one-reason (Store p a v) w UaddrUnaligned ((λ h. refl) and tt)
 
-pub clock-reason : (now : ℕ) (w : World) → isMinus22 (step (Clock now) w .answer) ≡ true → reasonOf (step (Clock now) w .answer) ≡ ClockBack
+pub clock-reason : (now : ℕ) (w : World) → refuses22 (step (Clock now) w .answer) ≡ true → reasonOf (step (Clock now) w .answer) ≡ ClockBack
 unfolding refusals
 clock-reason now w = one-reason (Clock now) w ClockBack ((λ h. refl) and tt)
 
 pub interrupt-reason : (p i : ℕ) (w : World) → reasonOf (step (Interrupt p i) w .answer) ≡ NoReason
 unfolding refusals
 interrupt-reason p i w =
-    cases (isMinus22 (step (Interrupt p i) w .answer))
+    cases (refuses22 (step (Interrupt p i) w .answer))
     (one-reason (Interrupt p i) w NoReason tt)
-    (λ off. reason-none (Interrupt p i) w .1 (λ n. clash (isMinus22 (step (Interrupt p i) w .answer)) (numbers-22 (step (Interrupt p i) w .answer) n) off))
+    (λ off. reason-none (Interrupt p i) w .1 (λ n. clash (refuses22 (step (Interrupt p i) w .answer)) (numbers-22 (step (Interrupt p i) w .answer) n) off))
 
-lowest-fault : (e : Event) (w : World) → isMinus22 (step e w .answer) ≡ true
+lowest-fault : (e : Event) (w : World) → refuses22 (step e w .answer) ≡ true
     → Fault w (reasonOf (step e w .answer)) e × ((q : Reason) → Fault w q e → reasonNumber (reasonOf (step e w .answer)) ≤ reasonNumber q)
 lowest-fault e w h =
     let by = refused-22 e w (step e w .answer) refl h in
@@ -287,7 +294,7 @@ lowest-fault e w h =
 abbrev Tells : Event → World → Reason → Type 0
 Tells e w r = (answerNumbers (step e w .answer) ≡ negℤ (pos 22) ∷ []) × Fault w r e × ((q : Reason) → reasonNumber q < reasonNumber r → Fault w q e → ⊥)
 
-given-tells : (e : Event) (w : World) → isMinus22 (step e w .answer) ≡ true → Tells e w (reasonOf (step e w .answer))
+given-tells : (e : Event) (w : World) → refuses22 (step e w .answer) ≡ true → Tells e w (reasonOf (step e w .answer))
 given-tells e w on = let low = lowest-fault e w on in (minus-22 (step e w .answer) on, low .0, λ p l f. omega (arith, low .1 p f, l))
 
 not-below : (m n : ℕ) → m ≤ n → (m < n → ⊥) → m ≡ n
@@ -296,9 +303,9 @@ not-below m n le lt = cases (ltb m n) (λ e. absurd (lt (ltb-true m n e))) (λ e
 pub reason-exactly : (e : Event) (w : World) (r : Reason) → (r ≡ NoReason → ⊥) → (reasonOf (step e w .answer) ≡ r) ↔ Tells e w r
 reason-exactly e w r some =
     let a = step e w .answer in (
-      (λ h. subst (Tells e w) h (cases (isMinus22 a)
+      (λ h. subst (Tells e w) h (cases (refuses22 a)
           (given-tells e w)
-          (λ off. absurd (some (sym h ∙ reason-none e w .1 (λ n. clash (isMinus22 a) (numbers-22 a n) off)))))),
+          (λ off. absurd (some (sym h ∙ reason-none e w .1 (λ n. clash (refuses22 a) (numbers-22 a n) off)))))),
       (λ h.
           let low = lowest-fault e w (numbers-22 a (h .0)) in
           same-reason (reasonOf a) r (not-below _ _ (low .1 r (h .1)) (λ l. h .2 (reasonOf a) l (low .0)))),

@@ -10,7 +10,7 @@ use Rattle.rules.specs.declared.answer.Verdict.the-variants.{Refuse, Pas
 use Rattle.rules.specs.declared.answer.Answer.the-variants.{Count, Refused}
 use Rattle.rules.specs.declared.event.Event.{Event}
 use Rattle.tables.specs.Tables.{World}
-use Rattle.rules.specs.Answers.{Row, first, firstOr, outcome, judged}
+use Rattle.rules.specs.Answers.{Row, byRows, first, outcome, judged}
 use Rattle.rules.specs.Calls.{firstRows}
 use Rattle.rules.specs.Events.{ownRows, isQuery, refusals, effect, step}
 use Rattle.rules.specs.Claims.{FirstOf, here, later, Clear}
@@ -61,13 +61,14 @@ pub passed-before : (rs qs : List Row) → first rs ≡ Pass → first (rs ++ qs
 passed-before [] qs h = refl
 passed-before (r ∷ rs) qs h = cases (r .applies) (λ e. not-pass {x = r .refusal} (cc)) (λ e. cc (passed-before rs qs (cc)))
 
-pub first-or : (rs qs : List Row) → firstOr rs (first qs) ≡ first (rs ++ qs)
-first-or [] qs = refl
-first-or (r ∷ rs) qs = ap (cond (r .applies) (Refuse (r .refusal))) (first-or rs qs)
+module _ {ℓ} {A : Type ℓ} (f : Refusal → A) where
+  pub rows-append : (rs qs : List Row) (below : A) → byRows f (rs ++ qs) below ≡ byRows f rs (byRows f qs below)
+  rows-append [] qs below = refl
+  rows-append (r ∷ rs) qs below = ap (cond (r .applies) (f (r .refusal))) (rows-append rs qs below)
 
-pub clear-or : (rs : List Row) (below : Verdict) → Clear rs → firstOr rs below ≡ below
-clear-or [] below h = refl
-clear-or (r ∷ rs) below h = rw (h .0) (clear-or rs below (h .1))
+  pub rows-clear : (rs : List Row) (below : A) → Clear rs → byRows f rs below ≡ below
+  rows-clear [] below h = refl
+  rows-clear (r ∷ rs) below h = rw (h .0) (rows-clear rs below (h .1))
 
 -- the rows of an event that is no panel query
 pub all-rows : (e : Event) (w : World) → isQuery e ≡ false → refusals e w ≡ firstRows w ++ ownRows e w

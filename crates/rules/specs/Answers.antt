@@ -2,7 +2,8 @@
 use mathlib.Core.Bool.{Bool, true, false, cond}
 use mathlib.Core.List.{List, [], _∷_}
 use Prim.Native.Nat.{ℕ}
-use lib.IntN.{ℤ, pos, negℤ}
+use lib.Dec.{eqb}
+use lib.IntN.{ℤ, pos, negsuc, negℤ}
 use Rattle.tables.specs.declared.LastAnswer.{LastAnswer}
 use Rattle.tables.specs.declared.LastAnswer.the-variants.{NoneYet, Woken, TimedOut, Interrupted}
 use Rattle.rules.specs.declared.answer.Errno.{Errno}
@@ -60,6 +61,11 @@ reasonOf (Count n) = NoReason
 reasonOf (Refused x) = x .reason
 reasonOf (Waiting v) = NoReason
 
+-- the number that has a reason beside it, -22
+abbrev pub isMinus22 : ℤ → Bool
+isMinus22 (pos n) = false
+isMinus22 (negsuc n) = eqb n 21
+
 -- "The last answer is 1 until a sleep ends, then 0 (woken), -110 or -4."
 abbrev pub lastNumber : LastAnswer → ℤ
 lastNumber NoneYet = pos 1
@@ -88,20 +94,17 @@ infix 70 _when_
 abbrev pub _when_ : Errno → Bool → Row
 x when b = plain x given b
 
--- "Tests come in this order; the first that applies answers."
+-- "Tests come in this order; the first that applies answers": what is given for its refusal, and what stands below where none applies.
+abbrev pub byRows {ℓ} : {A : Type ℓ} → (Refusal → A) → List Row → A → A
+byRows f [] below = below
+byRows f (r ∷ rs) below = cond (r .applies) (f (r .refusal)) (byRows f rs below)
+
 abbrev pub first : List Row → Verdict
-first [] = Pass
-first (r ∷ rs) = cond (r .applies) (Refuse (r .refusal)) (first rs)
+first rs = byRows Refuse rs Pass
 
--- rows before a verdict: the first that applies answers, and where none does, the verdict stands
-abbrev pub firstOr : List Row → Verdict → Verdict
-firstOr [] below = below
-firstOr (r ∷ rs) below = cond (r .applies) (Refuse (r .refusal)) (firstOr rs below)
-
--- the reason of a verdict
-abbrev pub reasonIn : Verdict → Reason
-reasonIn (Refuse x) = x .reason
-reasonIn Pass = NoReason
+-- the reason of the first that applies
+abbrev pub reasonAmong : List Row → Reason
+reasonAmong rs = byRows (λ x. x .reason) rs NoReason
 
 -- What an event leaves: its answer, and the tables and words.
 pub record Outcome : Type 0 where

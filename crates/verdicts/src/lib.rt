@@ -3,7 +3,7 @@ ghost use mathlib.Core.Path.{_≡_};
 ghost use mathlib.Core.Bool.{cond};
 ghost use Rattle.rules.specs.declared.answer.Errno.the-variants.{EINVAL};
 ghost use Rattle.rules.specs.declared.answer.Verdict.the-variants.{Refuse};
-ghost use Rattle.rules.specs.Answers.{_because_, plain, first, firstOr, reasonIn};
+ghost use Rattle.rules.specs.Answers.{_because_, plain, byRows, first, reasonAmong};
 ghost use Rattle.rules.specs.Commands.{commandOf};
 ghost use Rattle.rules.specs.Calls.{noThread, badArgument, argumentRows, badAddress, differs, late, callRows};
 use commands::deadline_of;
@@ -82,7 +82,7 @@ fn reason_if(reason: Reason, applies: bool, below: Reason) -> Reason
 
 // What is wrong with a call's arguments, from the last row for -22 up: the lowest reason that applies.
 pub fn wrong_argument(c: Call) -> Reason
-    ensures { λ r. ⌜ r ≡ reasonIn (first (argumentRows (commandOf (c .op)) c)) ⌝ }
+    ensures { λ r. ⌜ r ≡ reasonAmong (argumentRows (commandOf (c .op)) c) ⌝ }
 {
     let u = uses_by(c.op);
     let cap2 = second_cap(c);
@@ -104,7 +104,7 @@ pub fn wrong_argument(c: Call) -> Reason
 
 // The rows for -22, before the rows below them.
 fn arguments(c: Call, below: Verdict) -> Verdict
-    ensures { λ r. ⌜ r ≡ firstOr (argumentRows (commandOf (c .op)) c) below ⌝ }
+    ensures { λ r. ⌜ r ≡ byRows Refuse (argumentRows (commandOf (c .op)) c) below ⌝ }
 {
     let bad = bad_argument(c);
     let reason = wrong_argument(c);

@@ -5,7 +5,7 @@ use mathlib.Core.List.{List, [], _∷_, _++_}
 use Prim.Native.Nat.{ℕ, zero, suc, _-_, _^_, _≤_, _<_}
 use native.Mathlib.Omega.{arith}
 use lib.ListN.{length, set, take}
-use lib.IntN.{ℤ, pos, negsuc, negℤ}
+use lib.IntN.{ℤ, pos, negsuc}
 use lib.Dec.{eqb}
 use borrow.Author.Tests.{eqb-true}
 use lib.Signed.{mag}
@@ -14,18 +14,15 @@ use mir.Val.{SFits, toZ, ofZ}
 use mir.Facts.{toZ-ofZ}
 use Rattle.lists.proofs.Tests.{cases, never}
 use Rattle.rules.specs.declared.event.Event.{Event}
-use Rattle.rules.specs.declared.answer.Errno.{Errno}
-use Rattle.rules.specs.declared.answer.Errno.the-variants.{ENXIO, EBADF, ESRCH, EBUSY, ENOSYS, EINVAL, EFAULT, EAGAIN, ETIMEDOUT, ENOMEM}
 use Rattle.rules.specs.declared.answer.Reason.{Reason}
 use Rattle.rules.specs.declared.answer.Reason.the-variants.{NoReason}
 use Rattle.rules.specs.declared.answer.Answer.{Answer}
 use Rattle.rules.specs.declared.answer.Answer.the-variants.{Asleep, Count, Refused, Waiting}
 use Rattle.tables.specs.Tables.{World}
-use Rattle.rules.specs.Answers.{errnoNumber, reasonNumber, reasonOf}
+use Rattle.rules.specs.Answers.{reasonNumber, reasonOf, isMinus22}
 use Rattle.rules.specs.Events.{step}
-use Rattle.rules.proofs.Reasons.{isMinus22, reason-told}
-use Rattle.rules.proofs.Reasons as Reasons
-use Rattle.vradomil.specs.Host.{hostNumber, isInvalid, reportBytes, laidOver}
+use Rattle.rules.proofs.Reasons.{refuses22, errno-22, reason-told}
+use Rattle.vradomil.specs.Host.{hostNumber, reportBytes, laidOver}
 
 pub none-taken : (n : ℕ) (l : List ℕ) → l ≡ take n [] ++ l
 none-taken zero l = refl
@@ -40,41 +37,29 @@ none-laid x [] h = refl
 none-laid x (y ∷ l) h = never (omega (arith, h))
 
 -- A number that a host is given is -22 where the answer is.
-errno-invalid : (x : Errno) → isInvalid (negℤ (pos (errnoNumber x))) ≡ Reasons.isInvalid x
-errno-invalid ENXIO = refl
-errno-invalid EBADF = refl
-errno-invalid ESRCH = refl
-errno-invalid EBUSY = refl
-errno-invalid ENOSYS = refl
-errno-invalid EINVAL = refl
-errno-invalid EFAULT = refl
-errno-invalid EAGAIN = refl
-errno-invalid ETIMEDOUT = refl
-errno-invalid ENOMEM = refl
-
-number-22 : (a : Answer) → isInvalid (hostNumber a) ≡ isMinus22 a
+number-22 : (a : Answer) → isMinus22 (hostNumber a) ≡ refuses22 a
 number-22 Asleep = refl
 number-22 (Count n) = refl
-number-22 (Refused x) = errno-invalid (x .errno)
+number-22 (Refused x) = errno-22 (x .errno)
 number-22 (Waiting v) = refl
 
 -- The report of an event, made of its number and of what is wrong where that is -22.
 pub report-made : (e : Event) (w : World) {z : ℤ} {wrong : Reason} → z ≡ hostNumber (step e w .answer)
-    → (isMinus22 (step e w .answer) ≡ true → reasonOf (step e w .answer) ≡ wrong)
-    → {r : Reason} → r ≡ cond (isInvalid z) wrong NoReason
+    → (refuses22 (step e w .answer) ≡ true → reasonOf (step e w .answer) ≡ wrong)
+    → {r : Reason} → r ≡ cond (isMinus22 z) wrong NoReason
     → (lent : List ℕ) → laidOver (reasonNumber r ∷ []) lent ≡ laidOver (reportBytes (step e w .answer)) lent
 report-made e w {wrong = wrong} number only is lent =
     ap (λ q. laidOver (reasonNumber q ∷ []) lent)
-    (is ∙ ap (λ b. cond b wrong NoReason) (ap isInvalid number ∙ number-22 (step e w .answer)) ∙ reason-told e w wrong only)
+    (is ∙ ap (λ b. cond b wrong NoReason) (ap isMinus22 number ∙ number-22 (step e w .answer)) ∙ reason-told e w wrong only)
 
 -- a number of 32 bits is -22 exactly if its bits are those of -22
 abbrev bits : ℕ
 bits = 2 ^ 32 - 22
 
-pub is-invalid : (z : ℤ) → SFits w32 z → ofZ w32 z ≡ bits → isInvalid z ≡ true
-is-invalid z fits h = ap isInvalid (sym (toZ-ofZ {z = z} fits) ∙ ap (toZ w32) h)
+pub is-invalid : (z : ℤ) → SFits w32 z → ofZ w32 z ≡ bits → isMinus22 z ≡ true
+is-invalid z fits h = ap isMinus22 (sym (toZ-ofZ {z = z} fits) ∙ ap (toZ w32) h)
 
-pub not-invalid : (z : ℤ) → (ofZ w32 z ≡ bits → ⊥) → isInvalid z ≡ false
+pub not-invalid : (z : ℤ) → (ofZ w32 z ≡ bits → ⊥) → isMinus22 z ≡ false
 not-invalid (pos n) h = refl
 not-invalid (negsuc n) h = cases (eqb n 21) (λ e. absurd (h (ap (λ k. ofZ w32 (negsuc k)) (eqb-true n 21 e)))) (λ e. e)
 

@@ -1,9 +1,9 @@
 -- What a C host gets: the rules' answers as numbers, and every byte of tables and words afterwards.
 use mathlib.Core.Path.{_≡_}
-use mathlib.Core.Bool.{Bool, false, cond}
+use mathlib.Core.Bool.{cond}
 use mathlib.Core.List.{List, [], _∷_, _++_}
 use Prim.Native.Nat.{ℕ, _+_, _*_, _^_, _≤_, _<_}
-use lib.IntN.{ℤ, pos, negsuc, negℤ}
+use lib.IntN.{ℤ, pos, negℤ}
 use lib.ListN.{length, take, drop}
 use lib.Dec.{eqb}
 use Rattle.tables.specs.declared.State.{State}
@@ -122,11 +122,6 @@ pub record Initialised (b : List ℕ) (r : ℤ) (after : List ℕ) : Type 0 wher
   pub bytes : after ≡ cond (eqb (length b) tablesSize) (tablesBytes fresh) b
 
 -- What the functions inside tell each other.
-
--- a number is -22
-abbrev pub isInvalid : ℤ → Bool
-isInvalid (pos n) = false
-isInvalid (negsuc n) = eqb n 21
 
 -- the first two rows of every event but the panel query, and what it means to pass them
 pub record BuffersJudged (tables words : List ℕ) (v : Verdict) : Type 0 where

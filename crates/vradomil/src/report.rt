@@ -4,10 +4,10 @@ ghost use mathlib.Core.Bool.{cond};
 ghost use mathlib.Core.List.{_∷_, []};
 ghost use Rattle.rules.specs.declared.event.Event.the-variants.{Store, Clock, Interrupt};
 ghost use Rattle.rules.specs.declared.answer.Reason.the-variants.{NoReason};
-ghost use Rattle.rules.specs.Answers.{reasonNumber, first, reasonIn};
+ghost use Rattle.rules.specs.Answers.{reasonNumber, isMinus22, reasonAmong};
 ghost use Rattle.rules.specs.Commands.{commandOf};
 ghost use Rattle.rules.specs.Calls.{argumentRows};
-ghost use Rattle.vradomil.specs.Host.{isInvalid, laidOver, Calls, ChangesWords, ChangesTables};
+ghost use Rattle.vradomil.specs.Host.{laidOver, Calls, ChangesWords, ChangesTables};
 use crate::call::vradomil_call;
 use crate::event::vradomil_clock;
 use crate::event::vradomil_interrupt;
@@ -20,7 +20,7 @@ const EINVAL: i32 = -22;
 
 // The reason beside the number of an event: what can be wrong with it, where the number is -22.
 pub(crate) fn reason_of(number: i32, wrong: Reason) -> Reason
-    ensures { λ r. ⌜ r ≡ cond (isInvalid number) wrong NoReason ⌝ }
+    ensures { λ r. ⌜ r ≡ cond (isMinus22 number) wrong NoReason ⌝ }
 {
     if number == EINVAL {
         wrong
@@ -31,7 +31,7 @@ pub(crate) fn reason_of(number: i32, wrong: Reason) -> Reason
 
 // The same of a call, whose arguments are looked at only then.
 pub(crate) fn reason_of_call(number: i32, c: Call) -> Reason
-    ensures { λ r. ⌜ r ≡ cond (isInvalid number) (reasonIn (first (argumentRows (commandOf (c .op)) c))) NoReason ⌝ }
+    ensures { λ r. ⌜ r ≡ cond (isMinus22 number) (reasonAmong (argumentRows (commandOf (c .op)) c)) NoReason ⌝ }
 {
     if number != EINVAL {
         return Reason::NoReason;

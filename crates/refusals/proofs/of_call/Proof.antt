@@ -1,6 +1,7 @@
 use mathlib.Core.Path.{ap, _∙_}
 use Rattle.tables.specs.Tables.{world}
-use Rattle.rules.specs.Answers.{firstOr}
+use Rattle.rules.specs.declared.answer.Verdict.the-variants.{Refuse}
+use Rattle.rules.specs.Answers.{byRows}
 use Rattle.rules.specs.Calls.{firstRows}
 use Rattle.refusals.proofs.Read.{verdict-is}
 use borrow.Author.Needs.{needs}
@@ -37,7 +38,7 @@ returns c =
     let g = t .before .before .args in
     let ws = g .words .now in
     c .tested .ensures
-    ∙ ap (firstOr (firstRows (world (g .t1) ws))) (rw (v .verdict-on .ensures, w .word-at .ensures))
+    ∙ ap (byRows Refuse (firstRows (world (g .t1) ws))) (rw (v .verdict-on .ensures, w .word-at .ensures))
     ∙ verdict-is (g .c) (g .t1) ws (t .thread-index .result) (i .word-index .result) (t .thread-index .ensures) (i .word-index .ensures)
 
 pub of-call-spec : {M : Type 1} → statement M

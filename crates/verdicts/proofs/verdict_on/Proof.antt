@@ -1,15 +1,15 @@
 use borrow.Author.Needs.{needs}
-use mathlib.Core.Path.{sym}
 use mathlib.Core.Bool.{_&&_}
 use mathlib.Core.List.{List, [], _∷_}
 use Prim.Native.Nat.{ℕ}
 use Rattle.rules.specs.declared.event.Call.{Call}
 use Rattle.rules.specs.declared.answer.Errno.the-variants.{ENOSYS, EFAULT, EAGAIN, ETIMEDOUT, ENOMEM}
+use Rattle.rules.specs.declared.answer.Verdict.the-variants.{Refuse, Pass}
 use Rattle.rules.specs.Answers.{Row, _when_}
 use Rattle.rules.specs.WakeOp.{undefinedOp}
 use Rattle.rules.specs.Commands.{commandOf}
 use Rattle.rules.specs.Calls.{argumentRows, badAddress, isWakeOp, differs, late, full, callRows}
-use Rattle.rules.proofs.Rows.{first-or}
+use Rattle.rules.proofs.Rows.{rows-append}
 use Rattle.verdicts.proofs.verdict_on.Statement.{statement}
 use Rattle.verdicts.proofs.verdict_on.Tie as tie
 
@@ -94,7 +94,7 @@ returns c =
       k .before .before .before .before .before .row2 .ensures,
       k .before .before .before .before .before .before .late .ensures,
       k .before .before .before .before .before .before .before .row .ensures,
-      sym (first-or (argumentRows (commandOf (g .c .op)) (g .c)) (behind (g .c) (g .now) (g .count) (g .word))),
+      rows-append Refuse (argumentRows (commandOf (g .c .op)) (g .c)) (behind (g .c) (g .now) (g .count) (g .word)) Pass,
     )
 
 pub verdict-on-spec : {M : Type 1} → statement M

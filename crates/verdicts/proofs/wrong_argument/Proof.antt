@@ -1,7 +1,5 @@
 use borrow.Author.Needs.{needs}
-use Rattle.rules.specs.Commands.{commandOf}
 use Rattle.rules.specs.Calls.{argumentRows}
-use Rattle.rules.proofs.Arguments.{reason-first}
 use Rattle.verdicts.proofs.wrong_argument.Statement.{statement}
 use Rattle.verdicts.proofs.wrong_argument.Tie as tie
 
@@ -39,9 +37,7 @@ returns c =
     let r1 = r2 .before .before .before in
     let cap = r1 .before .before .before in
     let u = cap .before in
-    let a = u .before .args in
     rw (c .reason-if6 .ensures, r5 .reason-if5 .ensures, r4 .reason-if4 .ensures, r3 .reason-if3 .ensures, r2 .reason-if2 .ensures, r1 .reason-if .ensures, u .uses-by .ensures, cap .second-cap .ensures)
-    (reason-first (argumentRows (commandOf (a .c .op)) (a .c)))
 
 pub wrong-argument-spec : {M : Type 1} → statement M
 wrong-argument-spec =
