@@ -117,9 +117,15 @@ static inline int32_t requeue(const struct call *c, bool compare)
     return compare ? n.released + n.moved : n.released;
 }
 
-static inline uint32_t operate(uint32_t op, uint32_t oparg, uint32_t old)
+/* oparg or cmparg, from the 12 bits that it has in val3. */
+static inline int32_t signed_field(uint32_t bits)
 {
-    uint32_t operand = op & VRADOMIL_OP_SHIFT ? UINT32_C(1) << oparg % 32 : oparg;
+    return bits < 2048 ? (int32_t)bits : (int32_t)bits - 4096;
+}
+
+static inline uint32_t operate(uint32_t op, int32_t oparg, uint32_t old)
+{
+    uint32_t operand = op & VRADOMIL_OP_SHIFT ? UINT32_C(1) << (oparg & 31) : (uint32_t)oparg;
     switch (op & 7) {
     case VRADOMIL_OP_SET:
         return operand;
@@ -134,7 +140,7 @@ static inline uint32_t operate(uint32_t op, uint32_t oparg, uint32_t old)
     }
 }
 
-static inline bool compares(uint32_t cmp, uint32_t old, uint32_t cmparg)
+static inline bool compares(uint32_t cmp, int32_t old, int32_t cmparg)
 {
     switch (cmp) {
     case VRADOMIL_CMP_EQ:
@@ -161,10 +167,10 @@ static inline int32_t wake_op(const struct call *c)
     if ((op & 7) > VRADOMIL_OP_XOR || cmp > VRADOMIL_CMP_GE)
         return VRADOMIL_ENOSYS;
     uint32_t old = load(c->area + c->uaddr2);
-    uint32_t new = operate(op, c->val3 >> 12 & 4095, old);
+    uint32_t new = operate(op, signed_field(c->val3 >> 12 & 4095), old);
     memcpy(c->area + c->uaddr2, &new, sizeof new);
     int32_t released = release(c->t, c->process, c->uaddr, ALL_ONES, c->val);
-    if (compares(cmp, old, c->val3 & 4095))
+    if (compares(cmp, (int32_t)old, signed_field(c->val3 & 4095)))
         released += release(c->t, c->process, c->uaddr2, ALL_ONES, c->cap2);
     return released;
 }

@@ -133,7 +133,7 @@ static struct event make_event(const struct vradomil_tables *t, int kind, uint8_
         e.op = VRADOMIL_CMP_REQUEUE, e.val3 = WORD_VALUE, e.time = VRADOMIL_ALL;
         return e;
     case WAKE_OP:
-        e.op = VRADOMIL_WAKE_OP, e.val3 = VRADOMIL_WAKE_OP_VAL3(VRADOMIL_OP_ADD, 0, VRADOMIL_CMP_EQ, WORD_VALUE), e.time = 1;
+        e.op = VRADOMIL_WAKE_OP, e.val3 = VRADOMIL_WAKE_OP_VAL3(VRADOMIL_OP_SET, WORD_VALUE, VRADOMIL_CMP_LT, WORD_VALUE + 1), e.time = 1;
         return e;
     default:
         return make_other(t, kind, caller);

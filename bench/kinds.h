@@ -33,7 +33,7 @@ enum { KINDS = 15 };
 extern const struct kind kinds[KINDS];
 
 /* The words that the events read hold this number. */
-enum { WORD_VALUE = 7 };
+enum { WORD_VALUE = -7 };
 
 /* One random case of a kind, with so many sleepers. */
 void make_sample(struct sample *s, int kind, int sleepers);

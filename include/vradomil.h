@@ -56,24 +56,27 @@ extern "C" {
 #define VRADOMIL_PRIVATE 128
 #define VRADOMIL_CLOCK_REALTIME 256
 
-/* The parts of WAKE_OP's val3: what is done to the word at uaddr2 .. */
+/*
+ * The parts of WAKE_OP's val3, in which oparg and cmparg are -2048 to 2047: what is done to the word at uaddr2 with oparg, a
+ * negative one taken modulo 2^32, so that to set -1 stores 4294967295 ..
+ */
 #define VRADOMIL_OP_SET 0
 #define VRADOMIL_OP_ADD 1
 #define VRADOMIL_OP_OR 2
 #define VRADOMIL_OP_ANDN 3
 #define VRADOMIL_OP_XOR 4
-/* .. this bit added to one of the five: the operand is 2 to the power (oparg mod 32) .. */
+/* .. this bit added to one of the five: with 2 to the power (oparg mod 32), an exponent of 0 to 31, in place of oparg .. */
 #define VRADOMIL_OP_SHIFT 8
-/* .. and how the old word is compared with cmparg, both unsigned. */
+/* .. and how the old word, taken as an int32_t, is compared with cmparg. */
 #define VRADOMIL_CMP_EQ 0
 #define VRADOMIL_CMP_NE 1
 #define VRADOMIL_CMP_LT 2
 #define VRADOMIL_CMP_LE 3
 #define VRADOMIL_CMP_GT 4
 #define VRADOMIL_CMP_GE 5
-/* A whole val3. oparg and cmparg are 0 to 4095. */
+/* A whole val3, the same number that FUTEX_OP of linux/futex.h makes: oparg and cmparg are cut to their low 12 bits. */
 #define VRADOMIL_WAKE_OP_VAL3(op, oparg, cmp, cmparg) \
-    ((uint32_t)(op) << 28 | (uint32_t)(cmp) << 24 | ((uint32_t)(oparg) & 4095) << 12 | ((uint32_t)(cmparg) & 4095))
+    (((uint32_t)(op) & 15) << 28 | ((uint32_t)(cmp) & 15) << 24 | ((uint32_t)(oparg) & 4095) << 12 | ((uint32_t)(cmparg) & 4095))
 
 /* The refusals, in the order in which they are tested; the first that applies answers. They are errno numbers, negated. */
 #define VRADOMIL_ENXIO (-6)       /* the words are not 32,768 bytes */

@@ -2,10 +2,11 @@
 //! wake, move and time out, and arguments at the edges of every field.
 
 use second::model::{
-    Call, Event, State, CMP_REQUEUE, REQUEUE, THREADS, WAIT, WAIT_BITSET, WAKE, WAKE_BITSET,
-    WAKE_OP, WORDS_PER_PROCESS,
+    Call, Event, State, CMP_REQUEUE, REQUEUE, THREADS, THREADS_PER_PROCESS, WAIT, WAIT_BITSET,
+    WAKE, WAKE_BITSET, WAKE_OP, WORDS_PER_PROCESS,
 };
 use second::rng::Rng;
+use second::shorthand;
 
 pub const EDGE_U64: &[u64] = &[
     0,
@@ -39,6 +40,13 @@ const EDGE_U32: &[u32] = &[
     u32::MAX - 1,
     u32::MAX,
 ];
+/// The edges of what WAKE_OP compares, signed: 0 and 1, the ends of the twelve
+/// bits of a cmparg and one beyond them, the ends of a word.
+const EDGE_WORDS: &[u32] =
+    &[0, 1, 2047, 2048, (1 << 31) - 1, 1 << 31, u32::MAX - 2048, u32::MAX - 2047, u32::MAX];
+/// Of oparg and cmparg.
+const EDGE_FIELDS: &[i32] =
+    &[-2048, -2047, -33, -32, -31, -2, -1, 0, 1, 2, 3, 31, 32, 33, 2046, 2047];
 const EDGE_OPS: &[u32] = &[
     0,
     1,
@@ -155,10 +163,10 @@ fn other(rng: &mut Rng, mood: Mood, state: &State) -> Event {
 
 /// Mostly small, so that words are equal often.
 fn small(rng: &mut Rng) -> u32 {
-    if rng.percent(90) {
-        rng.below(4) as u32
-    } else {
-        rng.pick(EDGE_U32)
+    match rng.below(20) {
+        0..=1 => rng.pick(EDGE_U32),
+        2..=5 => rng.pick(EDGE_WORDS),
+        _ => rng.below(4) as u32,
     }
 }
 
@@ -207,11 +215,13 @@ fn call(rng: &mut Rng, mood: Mood, state: &State, words: &[u32]) -> Call {
         uaddr2: rng.u32(),
         val3: rng.u32(),
     };
-    let word = words[WORDS_PER_PROCESS * process as usize + uaddr as usize / 4];
+    // The words of the caller's process.
+    let words = &words[WORDS_PER_PROCESS * process as usize..][..WORDS_PER_PROCESS];
+    let word = words[uaddr as usize / 4];
     match command {
         WAIT | WAIT_BITSET => fit_wait(rng, mood, state.clock, word, &mut call),
         WAKE | WAKE_BITSET => call.val = cap(rng, mood),
-        _ => fit_second(rng, mood, word, &mut call),
+        _ => fit_second(rng, mood, state, words, &mut call),
     }
     if matches!(command, WAIT_BITSET | WAKE_BITSET) {
         call.val3 = rng.pick(MASKS);
@@ -237,25 +247,46 @@ fn cap(rng: &mut Rng, mood: Mood) -> u32 {
     }
 }
 
-fn fit_second(rng: &mut Rng, mood: Mood, word: u32, call: &mut Call) {
+fn fit_second(rng: &mut Rng, mood: Mood, state: &State, words: &[u32], call: &mut Call) {
     call.val = cap(rng, mood);
     call.uaddr2 = rng.pick(ADDRESSES);
     // Only the low 32 bits are the second cap.
     call.timeout = cap(rng, mood) as u64 + (rng.below(3) << 32);
     match call.op & 127 {
-        WAKE_OP => call.val3 = operation(rng),
-        CMP_REQUEUE => call.val3 = if rng.percent(90) { word } else { small(rng) },
+        WAKE_OP => fit_operation(rng, state, words, call),
+        CMP_REQUEUE => {
+            let word = words[call.uaddr as usize / 4];
+            call.val3 = if rng.percent(90) { word } else { small(rng) };
+        }
         _ => {}
     }
 }
 
-/// WAKE_OP's val3: mostly defined, small and edge operands.
-fn operation(rng: &mut Rng) -> u32 {
+/// A WAKE_OP whose second word mostly has a sleeper, by whom its comparison
+/// is seen.
+fn fit_operation(rng: &mut Rng, state: &State, words: &[u32], call: &mut Call) {
+    let count = THREADS_PER_PROCESS;
+    let threads = &state.threads[count * call.process as usize..][..count];
+    let from = rng.below(count as u64) as usize;
+    if rng.percent(80) {
+        let mut sleepers = (from..from + count).map(|n| threads[n % count]).filter(|t| t.waiting);
+        call.uaddr2 = sleepers.next().map_or(call.uaddr2, |thread| thread.uaddr);
+    }
+    call.val3 = operation(rng, words[call.uaddr2 as usize / 4]);
+}
+
+/// WAKE_OP's val3: mostly defined. oparg and cmparg are at an edge or anything;
+/// cmparg is also the old word, or next to it.
+fn operation(rng: &mut Rng, old: u32) -> u32 {
     let op = if rng.percent(95) { rng.below(5) + 8 * rng.below(2) } else { rng.below(16) };
     let cmp = if rng.percent(95) { rng.below(6) } else { rng.below(16) };
-    let oparg = rng.pick(&[0, 1, 2, 3, 31, 32, 33, 2047, 2048, 4095]);
-    let cmparg = rng.pick(&[0, 1, 2, 3, 2047, 2048, 4095]);
-    (op as u32) << 28 | (cmp as u32) << 24 | oparg << 12 | cmparg
+    let oparg = if rng.percent(75) { rng.pick(EDGE_FIELDS) } else { rng.u32() as i32 };
+    let cmparg = match rng.below(5) {
+        0 => rng.u32() as i32,
+        1..=2 => (old as i32).wrapping_add(rng.pick(&[-1, 0, 0, 1])),
+        _ => rng.pick(EDGE_FIELDS),
+    };
+    shorthand::val3(op as u32, cmp as u32, oparg, cmparg)
 }
 
 /// Puts one argument at an edge.
@@ -305,9 +336,14 @@ fn put_fault(rng: &mut Rng, call: &mut Call) {
 /// Words at random: most are small, so that they are equal often. Eight come
 /// from one random number, for speed.
 pub fn fill_words(rng: &mut Rng, words: &mut [u32]) {
+    let choices: [u32; 256] = std::array::from_fn(|byte| match byte {
+        0..160 => byte as u32 % 4,
+        160..240 => EDGE_WORDS[byte % EDGE_WORDS.len()],
+        _ => EDGE_U32[byte % EDGE_U32.len()],
+    });
     for eight in words.chunks_mut(8) {
         for (word, byte) in eight.iter_mut().zip(rng.u64().to_le_bytes()) {
-            *word = if byte < 240 { byte as u32 % 4 } else { EDGE_U32[byte as usize % 16] };
+            *word = choices[byte as usize];
         }
     }
 }

@@ -3,6 +3,7 @@
 
 mod events;
 mod host;
+mod operations;
 mod pair;
 mod reasons;
 mod room;
@@ -109,6 +110,9 @@ impl Run<'_> {
             return Err(format!("{event:?}: reason {}, not the lowest", given.reason));
         }
         self.tally.event(event, given.number, Form::of(length), applying);
+        if given.number >= 0 {
+            self.tally.wake_op(self.pair.shown(event));
+        }
         Ok(())
     }
 

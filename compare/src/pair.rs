@@ -5,11 +5,12 @@ use std::fmt::Write;
 
 use second::bytes::u32_at;
 use second::layout::{self, TABLE_BYTES};
-use second::model::{Event, State, WORDS, WORDS_PER_PROCESS};
+use second::model::{Event, State, PRIVATE_BIT, WAKE_OP, WORDS, WORDS_PER_PROCESS};
 use second::rng::Rng;
 
 use crate::events;
 use crate::host;
+use crate::operations::Shown;
 use crate::room::Room;
 
 /// The answer's number and its reason, as both sides gave them.
@@ -125,6 +126,16 @@ impl Pair {
             return Ok(Given { number: due, reason: report.reason });
         }
         Err(self.difference(&format!("{event:?}"), due, found))
+    }
+
+    /// What the last event, answered with a count, shows if it is a WAKE_OP.
+    pub fn shown(&self, event: &Event) -> Option<Shown> {
+        match (event, self.named[1]) {
+            (Event::Call(call), Some((_, old))) if call.op & !PRIVATE_BIT == WAKE_OP => {
+                Shown::of(call, old, &self.before, &self.bytes)
+            }
+            _ => None,
+        }
     }
 
     fn ask(&mut self, event: &Event) -> i64 {

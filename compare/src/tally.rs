@@ -1,11 +1,13 @@
-//! How often each kind of event got each answer and each reason, and which of
-//! these must have come up for a run to count.
+//! How often each kind of event got each answer and each reason, how often each
+//! operation and comparison of WAKE_OP was seen, and which of these must have
+//! come up for a run to count.
 
 use std::fmt::Write;
 
 use second::layout::ASLEEP;
 use second::model::{Event, PRIVATE_BIT};
 
+use crate::operations::{self, Shown, COMPARISONS, OPERATIONS, WAYS};
 use crate::reasons::{self, Reasons};
 
 /// A kind of event: a command, or one of the others.
@@ -112,6 +114,10 @@ pub struct Tally {
     counts: [[Counts; KINDS.len()]; FORMS.len()],
     /// How often a kind was refused for a set of reasons, where it was seen.
     reasons: [[u64; 256]; KINDS.len()],
+    /// How often a comparison came out in a way, and an operation had an oparg
+    /// that was not negative, and one that was.
+    compared: [[u64; WAYS]; COMPARISONS],
+    operated: [[u64; 2]; 16],
     pub sound: u64,
     pub broken: u64,
     /// A bit for each number of sleepers that tables had, and for each rule
@@ -125,6 +131,8 @@ impl Tally {
         Tally {
             counts: [[[0; ANSWERS.len() + 1]; KINDS.len()]; FORMS.len()],
             reasons: [[0; 256]; KINDS.len()],
+            compared: [[0; WAYS]; COMPARISONS],
+            operated: [[0; 2]; 16],
             sound: 0,
             broken: 0,
             sleepers: 0,
@@ -138,6 +146,13 @@ impl Tally {
         self.counts[form as usize][kind][answer_place(number)] += 1;
         if matches!(form, Form::Exact | Form::Longer) {
             self.reasons[kind][applying as usize] += 1;
+        }
+    }
+
+    pub fn wake_op(&mut self, shown: Option<Shown>) {
+        if let Some(shown) = shown {
+            self.compared[shown.comparison][shown.way] += 1;
+            self.operated[shown.operation][shown.oparg_negative as usize] += 1;
         }
     }
 
@@ -185,11 +200,31 @@ impl Tally {
         }
     }
 
+    /// The comparisons and operations that should have come up and didn't.
+    fn missing_operations(&self, missing: &mut Vec<String>) {
+        for (comparison, counts) in self.compared.iter().enumerate() {
+            for way in (0..WAYS).filter(|&way| operations::possible(comparison, way)) {
+                if counts[way] == 0 {
+                    missing.push(format!("comparison {comparison} {}", operations::way_name(way)));
+                }
+            }
+        }
+        for &operation in OPERATIONS {
+            for negative in [false, true] {
+                if self.operated[operation][negative as usize] == 0 {
+                    let sign = operations::sign(negative);
+                    missing.push(format!("operation {operation} with an oparg that is {sign}"));
+                }
+            }
+        }
+    }
+
     /// What should have come up and didn't.
     pub fn missing(&self, breaks: usize) -> Vec<String> {
         let mut missing = Vec::new();
         self.missing_answers(&mut missing);
         self.missing_reasons(&mut missing);
+        self.missing_operations(&mut missing);
         for sleepers in (0..=64).filter(|&n| self.sleepers >> n & 1 == 0) {
             missing.push(format!("tables with {sleepers} sleepers"));
         }
@@ -199,7 +234,8 @@ impl Tally {
         missing
     }
 
-    /// One line: events by kind, answers, forms, reasons seen, tables.
+    /// One line: events by kind, answers, forms, reasons and comparisons seen,
+    /// tables.
     pub fn summary(&self) -> String {
         let kinds = KINDS.iter().enumerate().map(|(at, kind)| {
             let counts = self.counts.iter().flat_map(|counts| counts[at]);
@@ -217,8 +253,16 @@ impl Tally {
         let mut text = format!("{} events", self.events());
         let _ = write!(text, " ({}), answers ({})", listed(kinds), listed(answers));
         let _ = write!(text, ", asked ({}), reasons seen ({})", listed(forms), listed(seen));
+        let (yes, no) = (self.compared_to(true), self.compared_to(false));
+        let _ = write!(text, ", comparisons seen (true {yes}, false {no})");
         let _ = write!(text, ", tables sound {} broken {}", self.sound, self.broken);
         text
+    }
+
+    /// How often a WAKE_OP's comparison was seen to come out so.
+    fn compared_to(&self, outcome: bool) -> u64 {
+        let ways = (0..WAYS).filter(|&way| operations::outcome(way) == outcome);
+        ways.flat_map(|way| self.compared.iter().map(move |counts| counts[way])).sum()
     }
 
     /// How often a reason was seen as the lowest.

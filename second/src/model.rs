@@ -1,6 +1,6 @@
-//! The futex kernel by the rules of document 01 and request (i) of document 02:
-//! the events, what they report and `step`, which applies one event to the
-//! tables and the lent words.
+//! The futex kernel by the rules of document 01 and requests (i) and (ii) of
+//! document 02: the events, what they report and `step`, which applies one event
+//! to the tables and the lent words.
 
 mod calls;
 mod tables;

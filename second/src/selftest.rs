@@ -1,12 +1,13 @@
 //! Checks of this program by itself: the cases of document 01, its sentences
-//! one by one, the reasons of document 02, round trips, and random runs against
-//! the rules said once more in another way.
+//! one by one, the reasons and the signed WAKE_OP of document 02, round trips,
+//! and random runs against the rules said once more in another way.
 
 mod calls;
 mod declared;
 mod histories;
 mod layouts;
 mod logs;
+mod operations;
 mod others;
 mod reasons;
 mod scripts;
@@ -39,6 +40,7 @@ impl Checks {
 }
 
 /// Tables and words to try events on.
+#[derive(Clone)]
 struct Display {
     state: State,
     words: Vec<u32>,
@@ -81,6 +83,7 @@ pub fn run() -> Checks {
     let mut checks = Checks::default();
     twelve::run(&mut checks);
     calls::run(&mut checks);
+    operations::run(&mut checks);
     others::run(&mut checks);
     reasons::run(&mut checks);
     logs::run(&mut checks);

@@ -54,6 +54,12 @@ pub fn wake_op(who: Who, first: u32, second: u32, caps: (u32, u64), val3: u32) -
     Event::Call(Call { uaddr2: second, timeout: caps.1, val3, ..first })
 }
 
+/// WAKE_OP's val3; the two arguments are -2048 to 2047, kept modulo 4096.
+pub fn val3(op: u32, cmp: u32, oparg: i32, cmparg: i32) -> u32 {
+    let field = |argument: i32| argument.rem_euclid(4096) as u32;
+    op << 28 | cmp << 24 | field(oparg) << 12 | field(cmparg)
+}
+
 pub fn store(process: u8, address: u32, value: u32) -> Event {
     Event::Store { process, address, value }
 }

@@ -2,7 +2,7 @@
 use mathlib.Core.Path.{_≡_, refl, sym, subst}
 use mathlib.Core.Bool.{Bool, true, false, cond}
 use mathlib.Core.List.{List}
-use Prim.Native.Nat.{ℕ, _-_, _%_, _^_, _<_}
+use Prim.Native.Nat.{ℕ, _-_, _^_, _<_}
 use native.Mathlib.Omega.{arith}
 use lib.ListN.{length, getD, set}
 use lib.Seq.{getD-set-same, getD-set-other, set-out}
@@ -17,15 +17,17 @@ use Rattle.rules.specs.declared.event.Command.{Command}
 use Rattle.rules.specs.declared.event.Call.{Call}
 use Rattle.rules.specs.declared.event.Event.{Event}
 use Rattle.rules.specs.declared.event.Event.the-variants.{Call as CallEvent, Store, Clock, Interrupt, Query}
-use Rattle.tables.specs.Sizes.{threads, wordLimit, matchAny, wordBytes}
+use Rattle.tables.specs.Sizes.{threads, wordBits, wordLimit, matchAny, wordBytes}
 use Rattle.tables.specs.Tables.{World, threadNumber, freshThread, ended, threadOf, asleepAt, endSleeps, moveSleeps, fallAsleep, writeWord, wordAt}
 use Rattle.rules.specs.Commands.{commandOf, uses}
-use Rattle.rules.specs.WakeOp.{opField, opArg, opCode, operand, newWord}
+use Rattle.rules.specs.Signed.{modulo}
+use Rattle.rules.specs.WakeOp.{opField, opArg, opCode, operand, operate, newWord}
 use Rattle.rules.specs.Calls.{maskOf, timeoutGiven, deadlineOf, wait, wake, requeue, wakeOp, callEffect}
 use Rattle.rules.specs.Events.{clockEffect, interruptEffect, effect, step}
 use Rattle.rules.specs.Claims.{Fate, stays, sleeps, wakes, moves, timesOut, isInterrupted}
 use Rattle.rules.proofs.Commands.{by-command}
 use Rattle.rules.proofs.Rows.{step-keeps}
+use Rattle.rules.proofs.Signed.{modulo-low}
 use Rattle.rules.proofs.Theorems.{fate}
 use Rattle.changes.specs.Change.{FitsThread, Fits}
 use Rattle.vradomil.specs.Host.{CallFits, EventFits}
@@ -80,10 +82,12 @@ thread-fits e w t f low g = by (fate e w t)
 -- a word
 operand-low : (v : ℕ) → operand v < 2 ^ 32
 unfolding operand
-operand-low v = choose (leb 8 (opField v)) (2 ^ (opArg v % 32)) (opArg v) (2 ^ 32) (pow-lt (let h : opArg v % 32 < 32 = omega arith in h)) (omega arith)
+operand-low v =
+    choose (leb 8 (opField v)) (2 ^ modulo wordBits (opArg v)) (modulo wordLimit (opArg v)) (2 ^ 32)
+    (pow-lt (modulo-low wordBits (opArg v) (omega arith))) (modulo-low wordLimit (opArg v) (omega arith))
 
 word-low : (v old : ℕ) → old < 2 ^ 32 → newWord v old < 2 ^ 32
-unfolding newWord
+unfolding newWord operate
 word-low v old h =
     let x = operand-low v in
     choose (eqb (opCode v) 0) _ _ (2 ^ 32) x

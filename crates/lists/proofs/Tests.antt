@@ -5,8 +5,8 @@ use Prim.Native.Nat.{ℕ, _*_, _≤_, _<_}
 use native.Mathlib.Nat.{one-mul, zero-mul}
 use native.Mathlib.Omega.{arith}
 use mathlib.Core.Bool.{Bool, true, false, _&&_, _||_, Bool·beq, true≢false, not, cond, and-assoc, and-comm, or-false}
-use lib.Dec.{eqb}
-use borrow.Author.Tests.{eqb-true, eqb-false, eq-eqb, ne-eqb}
+use lib.Dec.{eqb, leb, ltb}
+use borrow.Author.Tests.{eqb-true, eqb-false, eq-eqb, ne-eqb, ltb-true, ltb-false, lt-ltb, le-leb, lt-leb}
 use Rattle.lists.specs.Lists.{bit}
 
 pub cases {ℓ} : {P : Type ℓ} (b : Bool) → (b ≡ true → P) → (b ≡ false → P) → P
@@ -93,6 +93,25 @@ pub eqb-sym : (a b : ℕ) → eqb a b ≡ eqb b a
 eqb-sym a b = cases (eqb a b)
     (λ e. rw e (sym (eq-eqb b a (sym (eqb-true a b e)))))
     (λ e. rw e (sym (ne-eqb b a (λ d. eqb-false a b e (sym d)))))
+
+pub not-ltb : (a b : ℕ) → not (ltb a b) ≡ leb b a
+not-ltb a b = cases (ltb a b)
+    (λ e. rw e (sym (lt-leb b a (ltb-true a b e))))
+    (λ e. rw e (sym (le-leb b a (ltb-false a b e))))
+
+-- two tests that agree
+pub lt-same : (a b c d : ℕ) → (a < b → c < d) → (c < d → a < b) → ltb a b ≡ ltb c d
+lt-same a b c d f g = cases (ltb c d)
+    (λ e. rw e (lt-ltb a b (g (ltb-true c d e))))
+    (λ e. rw e (cases (ltb a b) (λ t. let h = f (ltb-true a b t) in let k = ltb-false c d e in absurd (omega arith)) (λ t. t)))
+
+-- numbers of which neither is below the other are equal
+pub eqb-ordered : (a b : ℕ) → eqb a b ≡ (not (ltb a b) && not (ltb b a))
+eqb-ordered a b = cases (ltb a b)
+    (λ e. let h = ltb-true a b e in rw e (ne-eqb a b (λ q. omega arith)))
+    (λ e. let h = ltb-false a b e in rw e (cases (ltb b a)
+    (λ f. let k = ltb-true b a f in rw f (ne-eqb a b (λ q. omega arith)))
+    (λ f. let k = ltb-false b a f in rw f (eq-eqb a b (omega arith)))))
 
 pub lt-of-le-ne : (n t : ℕ) → n ≤ t → eqb n t ≡ false → n < t
 lt-of-le-ne n t h e = let k = eqb-false n t e in omega arith

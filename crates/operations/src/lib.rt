@@ -1,8 +1,9 @@
 // Operations: what the val3 of a WAKE_OP stands for. It stands on rules.
 ghost use mathlib.Core.Path.{_≡_};
 ghost use Prim.Native.Nat.{_+_, _%_};
-ghost use Rattle.tables.specs.Sizes.{wordLimit};
-ghost use Rattle.rules.specs.WakeOp.{opField, cmpField, opArg, undefinedOp, operand, newWord, compares};
+ghost use Rattle.tables.specs.Sizes.{wordBits, wordLimit};
+ghost use Rattle.rules.specs.Signed.{signed, modulo, turned};
+ghost use Rattle.rules.specs.WakeOp.{argBits, opField, cmpField, opArg, cmpArg, undefinedOp, operand, newWord, compares};
 
 // From the top, val3 has 4 bits op, 4 cmp, 12 oparg and 12 cmparg: where each begins, and how many values it has.
 const OP_AT: u32 = 1 << 28;
@@ -25,6 +26,9 @@ const CMP_GE: u32 = 5;
 
 const WORD_BITS: u32 = 32;
 
+// The top bit of a word.
+const SIGN: u32 = 1 << (WORD_BITS - 1);
+
 fn op_field(v: u32) -> u32
     ensures { λ r. ⌜ r ≡ opField v ⌝ }
 {
@@ -37,10 +41,27 @@ fn cmp_field(v: u32) -> u32
     v / CMP_AT % CODES
 }
 
-fn op_arg(v: u32) -> u32
-    ensures { λ r. ⌜ r ≡ opArg v ⌝ }
+// The word that an argument stands for: in the upper half of its values, itself less all of them.
+fn extended(arg: u32) -> u32
+    ensures { λ r. ⌜ r ≡ modulo wordLimit (signed argBits arg) ⌝ }
 {
-    v / OPARG_AT % ARGS
+    if arg < ARGS / 2 {
+        arg
+    } else {
+        std::num::wrapping_sub_u32(arg, ARGS)
+    }
+}
+
+fn op_arg(v: u32) -> u32
+    ensures { λ r. ⌜ r ≡ modulo wordLimit (opArg v) ⌝ }
+{
+    extended(v / OPARG_AT % ARGS)
+}
+
+fn cmp_arg(v: u32) -> u32
+    ensures { λ r. ⌜ r ≡ modulo wordLimit (cmpArg v) ⌝ }
+{
+    extended(v % ARGS)
 }
 
 pub fn undefined_op(v: u32) -> bool
@@ -84,17 +105,25 @@ pub fn new_word(v: u32, old: u32) -> u32
     }
 }
 
+// With the sign bit turned, signed words are in the order of unsigned ones.
+fn turned(word: u32) -> u32
+    ensures { λ r. ⌜ r ≡ turned wordBits word ⌝ }
+{
+    wrapping_sum(word, SIGN)
+}
+
 pub fn compares(v: u32, old: u32) -> bool
     ensures { λ r. ⌜ r ≡ compares v old ⌝ }
 {
-    let x = v % ARGS;
+    let x = turned(cmp_arg(v));
+    let y = turned(old);
     let cmp = cmp_field(v);
     match cmp {
-        0 => old == x,
-        1 => old != x,
-        2 => old < x,
-        3 => old <= x,
-        4 => x < old,
-        _ => x <= old,
+        0 => y == x,
+        1 => y != x,
+        2 => y < x,
+        3 => y <= x,
+        4 => x < y,
+        _ => x <= y,
     }
 }

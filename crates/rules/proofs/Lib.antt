@@ -19,6 +19,8 @@ pub mod Determined
 pub mod Alike
 pub mod Histories
 pub mod Arguments
+pub mod Signed
+pub mod WakeOp
 pub mod Before
 pub mod Reasons
 pub mod Numbers

@@ -19,9 +19,9 @@ use Rattle.rules.specs.Commands.{commandOf}
 use Rattle.rules.specs.Calls.{released, callRows, wait, wake, requeue, wakeOp, callEffect}
 use Rattle.rules.specs.Events.{refusals, clockEffect, interruptEffect, panel, effect, step}
 use Rattle.rules.specs.Numbers.{done, numbersOf}
-use Rattle.rules.specs.Before.{stepBefore, withoutReason}
+use Rattle.rules.specs.Before.{stepWithoutReasons, withoutReason}
 use Rattle.rules.proofs.Arguments.{byErrno, arguments-one}
-use Rattle.rules.proofs.Before.{as-before}
+use Rattle.rules.proofs.Before.{as-before-reasons}
 
 abbrev refuseBy : List Row → List ℤ → List ℤ
 refuseBy rs below = byErrno (λ x. negℤ (pos (errnoNumber x)) ∷ []) rs below
@@ -63,8 +63,8 @@ plain-number (Count n) = (refl, refl)
 plain-number (Refused x) = (refl, refl)
 plain-number (Waiting v) = (refl, refl)
 
-pub before-numbers : (e : Event) (w : World) → (answerNumbers (stepBefore e w .answer) ≡ numbersOf e w) × (reasonOf (stepBefore e w .answer) ≡ NoReason)
+pub before-numbers : (e : Event) (w : World) → (answerNumbers (stepWithoutReasons e w .answer) ≡ numbersOf e w) × (reasonOf (stepWithoutReasons e w .answer) ≡ NoReason)
 before-numbers e w =
-    let same = ap (λ (o : Outcome). o .answer) (as-before e w) in
+    let same = ap (λ (o : Outcome). o .answer) (as-before-reasons e w) in
     let plain = plain-number (step e w .answer) in
     (rw (sym same) (plain .0 ∙ by-number e w), rw (sym same) (plain .1))

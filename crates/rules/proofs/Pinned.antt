@@ -1,14 +1,15 @@
 -- Laws that fix the words in which the theorems speak: each says, of a definition in specs/, what only the right one meets. Those that are
 -- proved by refl only read a definition out, so that a change of it shows; they say nothing more of the kernel.
 use mathlib.Core.Path.{_≡_, refl, ap, _∙_}
-use mathlib.Core.Bool.{true, false, cond, _||_}
+use mathlib.Core.Bool.{Bool, true, false, not, cond, _&&_, _||_}
 use mathlib.Core.List.{List, [], _∷_, _++_, map}
 use mathlib.Core.Logic.{_⊎_, _↔_}
-use Prim.Native.Nat.{ℕ, _*_, _/_}
+use Prim.Native.Nat.{ℕ, _+_, _-_, _*_, _/_, _%_, _≤_}
 use lib.ListN.{length, take, drop, replicate}
 use lib.Dec.{eqb}
-use lib.IntN.{pos, negℤ}
-use borrow.Author.Tests.{eqb-true, eq-eqb}
+use lib.Bits.{bitAnd, bitOr, bitXor}
+use lib.IntN.{ℤ, pos, negℤ}
+use borrow.Author.Tests.{eqb-true, eq-eqb, le-leb}
 use Rattle.lists.specs.Lists.{filter, elem}
 use Rattle.lists.proofs.Filter.{getD-replicated}
 use Rattle.lists.proofs.Tests.{eqb-refl, and-intro, and-left, and-right}
@@ -25,20 +26,24 @@ use Rattle.rules.specs.declared.answer.Refusal.{Refusal}
 use Rattle.rules.specs.declared.answer.Panel.{Panel}
 use Rattle.rules.specs.declared.answer.Verdict.the-variants.{Refuse, Pass}
 use Rattle.rules.specs.declared.answer.Answer.the-variants.{Asleep, Count, Refused, Waiting}
-use Rattle.tables.specs.Sizes.{processes, threadsPerProcess, threads, noEntry, wordsPerProcess, bytesPerProcess, memoryWords, maxCap}
+use Rattle.tables.specs.Sizes.{processes, threadsPerProcess, threads, noEntry, wordsPerProcess, bytesPerProcess, memoryWords, maxCap, wordBits, wordLimit}
 use Rattle.tables.specs.Tables.{World, world, fresh, expired, threadNumber, processOf, threadOf, arrivals, tablesOk, movedTo, wordAt}
 use Rattle.rules.specs.Answers.{Row, first, reasonNumber, answerNumbers, reasonOf, lastNumber}
 use Rattle.rules.specs.Commands.{commandOf, numbered, uses}
-use Rattle.rules.specs.Calls.{caller}
+use Rattle.rules.specs.Signed.{negative, modulo, eqZ}
+use Rattle.rules.specs.WakeOp.{codeBits, argBits, opField, cmpArgField, shiftBit, undefinedOp, operate, newWord, compareBy, compares, val3Of}
+use Rattle.rules.specs.Calls.{caller, isWakeOp, oldWord}
 use Rattle.rules.specs.Events.{step}
 use Rattle.rules.specs.Numbers.{numbersOf}
-use Rattle.rules.specs.Before.{stepBefore}
+use Rattle.rules.specs.Before.{stepWithoutReasons, newWordUnsigned, comparesUnsigned, stepUnsigned, noneNegative}
 use Rattle.rules.specs.History.{start, final, answers, isClock, belongs, keptFor, entriesOf, answersTo}
 use Rattle.rules.specs.Claims.{FirstOf, Clear, Sleeps, Took, Takes, wokenBy, movedBy, woke, shifted, countsMoves, SameSleepers, NamedAlike, before, after, asleepThere, Enters, sleptThrough, Since, Alike}
-use Rattle.rules.specs.Cases.{Case, sleepers, endedFrom, given, Reasoned, reasonedAs, Share, mixed, shareOf, Unsound, each, unsoundGiven}
+use Rattle.rules.specs.Cases.{wakeOpAt, asleepAtMinusOne, Case, sleepers, endedFrom, given, Reasoned, reasonedAs, Share, mixed, shareOf, Unsound, each, unsoundGiven}
+use Rattle.rules.specs.WakeOpCases.{Compared, comparedAs, Stored, storedAs, Called, calledAs}
 use Rattle.tables.proofs.Sound.{tables-sound}
 use Rattle.rules.proofs.Rows.{first-of, of-first, pass-clear, clear-pass}
 use Rattle.rules.proofs.Preserved.{Valid}
+use Rattle.rules.proofs.Signed.{eqZ-true, eq-eqZ}
 use Rattle.rules.proofs.Numbers as Numbers′
 use Rattle.rules.proofs.Taken as Taken
 use Rattle.rules.proofs.Fate.{fate}
@@ -52,8 +57,8 @@ use Rattle.rules.proofs.Histories as Histories
 
 -- "The display's fixed sizes"
 pub sizes : (processes ≡ 8) × (threadsPerProcess ≡ 8) × (threads ≡ 64) × (noEntry ≡ 255) × (wordsPerProcess ≡ 1024) × (bytesPerProcess ≡ 4096)
-    × (memoryWords ≡ 8192) × (maxCap ≡ 2147483647)
-sizes = (refl, refl, refl, refl, refl, refl, refl, refl)
+    × (memoryWords ≡ 8192) × (maxCap ≡ 2147483647) × (wordBits ≡ 32) × (wordLimit ≡ 4294967296) × (codeBits ≡ 4) × (argBits ≡ 12) × (shiftBit ≡ 8)
+sizes = (refl, refl, refl, refl, refl, refl, refl, refl, refl, refl, refl, refl, refl)
 
 -- The last answers by number: "The last answer is 1 until a sleep ends, then 0 (woken), -110 or -4."
 pub fresh-last : (words : List ℕ) (t : ℕ) → lastNumber (threadOf (start words .state) t .last) ≡ pos 1
@@ -140,8 +145,52 @@ pub reason-beside : (x : Refusal) (n : ℕ) (v : Panel)
 reason-beside x n v = (refl, refl, refl, refl)
 
 -- The rules before reasons answered by document 01's numbers, and gave no reason.
-pub before-numbers : (e : Event) (w : World) → (answerNumbers (stepBefore e w .answer) ≡ numbersOf e w) × (reasonOf (stepBefore e w .answer) ≡ NoReason)
+pub before-numbers : (e : Event) (w : World) → (answerNumbers (stepWithoutReasons e w .answer) ≡ numbersOf e w) × (reasonOf (stepWithoutReasons e w .answer) ≡ NoReason)
 before-numbers = Numbers′.before-numbers
+
+-- Signed numbers: equality by its test, which `compares-signed` speaks of.
+pub equal-exactly : (y z : ℤ) → (eqZ y z ≡ true) ↔ (y ≡ z)
+equal-exactly y z = (eqZ-true y z, eq-eqZ y z)
+
+-- WAKE_OP's operations and comparisons by their numbers: "0 set, 1 add, 2 or, 3 and-not, 4 xor", "0 =, 1 not =, 2 <, 3 <=, 4 >, 5 >=";
+pub operated : (x old : ℕ)
+    → (operate 0 x old ≡ x)
+    × (operate 1 x old ≡ (old + x) % 4294967296)
+    × (operate 2 x old ≡ bitOr old x)
+    × (operate 3 x old ≡ bitAnd old (4294967295 - x))
+    × (operate 4 x old ≡ bitXor old x)
+unfolding operate
+operated x old = (refl, refl, refl, refl, refl)
+
+pub compared : {A : Type 0} (same below : A → A → Bool) (x y : A)
+    → (compareBy same below 0 x y ≡ same x y)
+    × (compareBy same below 1 x y ≡ not (same x y))
+    × (compareBy same below 2 x y ≡ below x y)
+    × (compareBy same below 3 x y ≡ not (below y x))
+    × (compareBy same below 4 x y ≡ below y x)
+    × (compareBy same below 5 x y ≡ not (below x y))
+unfolding compareBy
+compared same below x y = (refl, refl, refl, refl, refl, refl)
+
+-- "5 to 7 undefined", of op's low three bits, and "the rest undefined".
+pub undefined-parts : let sixteen : List ℕ = 0 ∷ 1 ∷ 2 ∷ 3 ∷ 4 ∷ 5 ∷ 6 ∷ 7 ∷ 8 ∷ 9 ∷ 10 ∷ 11 ∷ 12 ∷ 13 ∷ 14 ∷ 15 ∷ [] in
+    (filter (λ op. undefinedOp (val3Of op (pos 0) 0 (pos 0))) sixteen ≡ 5 ∷ 6 ∷ 7 ∷ 13 ∷ 14 ∷ 15 ∷ [])
+    × (filter (λ cmp. undefinedOp (val3Of 0 (pos 0) cmp (pos 0))) sixteen ≡ 6 ∷ 7 ∷ 8 ∷ 9 ∷ 10 ∷ 11 ∷ 12 ∷ 13 ∷ 14 ∷ 15 ∷ [])
+unfolding undefinedOp modulo
+undefined-parts = (refl, refl)
+
+-- Of which events `as-before-signs` speaks: of all that are no WAKE_OP, and of a WAKE_OP with a power of two whatever its oparg.
+pub none-negative-else : (p a v now i : ℕ) (c : Call) (w : World)
+    → (noneNegative (Store p a v) w ≡ true)
+    × (noneNegative (Clock now) w ≡ true)
+    × (noneNegative (Interrupt p i) w ≡ true)
+    × (noneNegative (Query p) w ≡ true)
+    × (isWakeOp (commandOf (c .op)) ≡ false → noneNegative (CallEvent c) w ≡ true)
+none-negative-else p a v now i c w = (refl, refl, refl, refl, λ e. rw e)
+
+pub none-negative-power : (c : Call) (w : World) → isWakeOp (commandOf (c .op)) ≡ true → shiftBit ≤ opField (c .val3)
+    → noneNegative (CallEvent c) w ≡ (not (negative argBits (cmpArgField (c .val3))) && not (negative wordBits (oldWord c w)))
+none-negative-power c w e h = rw (e, le-leb shiftBit (opField (c .val3)) h)
 
 -- Wakes and requeues: what was taken fixes every record and the order of the list afterwards,
 pub took-fixes : {a : LastAnswer} {out on : List ℕ} {target : ℕ} {s u v : State} → Took a out on target s u → Took a out on target s v
@@ -295,3 +344,28 @@ reasoned-given r = refl
 
 pub unsound-given : (u : Unsound) → unsoundGiven u ≡ record { world = u .world; answers = map answerNumbers (answers each (u .world)) }
 unsound-given u = refl
+
+pub compared-given : (r : Compared)
+    → comparedAs r
+    ≡ record {
+      cmparg = r .cmparg;
+      old = r .old;
+      now = map (λ cmp. compares (val3Of 0 (pos 0) cmp (r .cmparg)) (r .old)) (0 ∷ 1 ∷ 2 ∷ 3 ∷ 4 ∷ 5 ∷ []);
+      before = map (λ cmp. comparesUnsigned (val3Of 0 (pos 0) cmp (r .cmparg)) (r .old)) (0 ∷ 1 ∷ 2 ∷ 3 ∷ 4 ∷ 5 ∷ []);
+    }
+compared-given r = refl
+
+pub stored-given : (r : Stored) → let v = val3Of (r .op) (r .oparg) 0 (pos 0) in
+    storedAs r ≡ record { op = r .op; oparg = r .oparg; old = r .old; now = newWord v (r .old); before = newWordUnsigned v (r .old) }
+stored-given r = refl
+
+pub called-given : (r : Called) → let w = final asleepAtMinusOne (start (replicate memoryWords 0)) in
+    let o = step (wakeOpAt (r .val3)) w in
+    let b = stepUnsigned (wakeOpAt (r .val3)) w in
+    calledAs r
+    ≡ record {
+      val3 = r .val3;
+      now = (answerNumbers (o .answer), wordAt (o .world) 0 8);
+      before = (answerNumbers (b .answer), wordAt (b .world) 0 8);
+    }
+called-given r = refl

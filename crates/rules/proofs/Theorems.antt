@@ -4,9 +4,10 @@ use mathlib.Core.Path.{_≡_, refl, sym, ap, _∙_}
 use mathlib.Core.Bool.{true, false, cond, _&&_}
 use mathlib.Core.List.{List, [], _∷_, _++_, map}
 use mathlib.Core.Logic.{_⊎_, inl, inr, _↔_}
-use Prim.Native.Nat.{ℕ, _+_, _-_, _≤_, _<_, min}
+use Prim.Native.Nat.{ℕ, _+_, _-_, _^_, _≤_, _<_, min}
 use native.Mathlib.Omega.{arith}
-use lib.IntN.{pos, negℤ}
+use lib.IntN.{ℤ, pos, negℤ, _+ℤ_}
+use lib.Signed.{ltZ}
 use lib.ListN.{length, take, drop}
 use Rattle.lists.specs.Lists.{filter, elem, without, countBelow}
 use Rattle.lists.proofs.Tests.{by-cases, clash}
@@ -21,24 +22,28 @@ use Rattle.rules.specs.declared.answer.Reason.{Reason}
 use Rattle.rules.specs.declared.answer.Reason.the-variants.{NoReason}
 use Rattle.rules.specs.declared.answer.Refusal.{Refusal}
 use Rattle.rules.specs.declared.answer.Answer.the-variants.{Asleep, Count, Refused}
-use Rattle.tables.specs.Sizes.{threads, bytesPerProcess, memoryWords}
+use Rattle.tables.specs.Sizes.{threads, bytesPerProcess, memoryWords, wordBits, wordLimit}
 use Rattle.tables.specs.Tables.{World, threadNumber, processOf, wordAt, ended, threadOf, arrivals, sleepsAt, queue, expired, expiredSleepers, tablesOk, withState, fallAsleep}
 use Rattle.rules.specs.Answers.{asleepNumber, reasonNumber, answerNumbers, reasonOf, outcome}
 use Rattle.rules.specs.Commands.{commandOf}
-use Rattle.rules.specs.WakeOp.{compares}
+use Rattle.rules.specs.Signed.{signed, Within, modulo, eqZ}
+use Rattle.rules.specs.WakeOp.{codeBits, argBits, opField, cmpField, opArgField, cmpArgField, opArg, cmpArg, shiftBit, operand, newWord, compareBy, compares, val3Of}
 use Rattle.rules.specs.Calls.{caller, secondCap, matches, candidates, released, moved, releasedSecond}
 use Rattle.rules.specs.Events.{refusals, effect, step}
 use Rattle.rules.specs.Numbers.{numbersOf}
-use Rattle.rules.specs.Before.{stepBefore, withoutReason}
+use Rattle.rules.specs.Before.{stepWithoutReasons, withoutReason, stepUnsigned, noneNegative}
 use Rattle.rules.specs.History.{start, final, keptFor, answersTo}
 use Rattle.rules.specs.Claims.{FirstOf, Clear, Fault, Sleeps, sleepsBy, Took, Takes, wokenCount, shiftedCount, countsMoves, NamedAlike, Fate, asleepThere, sleptThrough, Since, Alike}
 use Rattle.rules.proofs.Rows.{first-of, of-first, verdicts, step-refused, step-clear}
 use Rattle.rules.specs.Cases.{twelve, further, given, reasoned, reasonedAs, shares, shareOf, unsounds, unsoundGiven}
+use Rattle.rules.specs.WakeOpCases.{comparisons, comparedAs, operations, storedAs, calls, calledAs}
 use Rattle.rules.proofs.Cases as Cases
 use Rattle.tables.proofs.Sound.{tables-sound, sound-tables, none-overdue}
 use Rattle.rules.proofs.Refused.{refused-row}
 use Rattle.rules.proofs.Numbers.{by-number}
 use Rattle.rules.proofs.Preserved.{step-valid, final-valid, start-valid}
+use Rattle.rules.proofs.Signed as Signed′
+use Rattle.rules.proofs.WakeOp as WakeOp′
 use Rattle.rules.proofs.Before as Before
 use Rattle.rules.proofs.Reasons as Reasons
 use Rattle.rules.proofs.Sleeps as Sleeps′
@@ -90,9 +95,55 @@ pub reason-none : (e : Event) (w : World) → (reasonOf (step e w .answer) ≡ N
 reason-none = Reasons.reason-none
 
 -- "The number, its place in the order and what it leaves stay as they are": reasons taken away, an event is answered and leaves what the rules
--- before gave, for every event, any tables and words.
-pub as-before : (e : Event) (w : World) → outcome (withoutReason (step e w .answer)) (step e w .world) ≡ stepBefore e w
-as-before = Before.as-before
+-- give with document 01's one row for -22, for every event, any tables and words.
+pub as-before-reasons : (e : Event) (w : World) → outcome (withoutReason (step e w .answer)) (step e w .world) ≡ stepWithoutReasons e w
+as-before-reasons = Before.as-before-reasons
+
+-- Request (ii), WAKE_OP's signed numbers.
+
+-- "the 12-bit oparg and cmparg run from -2048 to 2047, a field of 2048 or more standing for itself less 4096": a field of so many bits stands for
+-- the one number of its range that is the field modulo 2^bits.
+pub signed-exactly : (bits x : ℕ) (z : ℤ) → 0 < bits → x < 2 ^ bits → (signed bits x ≡ z) ↔ (Within bits z × (modulo (2 ^ bits) z ≡ x))
+signed-exactly bits x z some low = Signed′.signed-exactly bits some x z low
+
+-- What a val3 stands for that FUTEX_OP of linux/futex.h, or VRADOMIL_WAKE_OP_VAL3, made of four parts: those.
+pub val3-parts : (op cmp : ℕ) (oparg cmparg : ℤ) → op < 2 ^ codeBits → cmp < 2 ^ codeBits → Within argBits oparg → Within argBits cmparg
+    → let v = val3Of op oparg cmp cmparg in (opField v ≡ op) × (cmpField v ≡ cmp) × (opArg v ≡ oparg) × (cmpArg v ≡ cmparg)
+val3-parts = WakeOp′.val3-parts
+
+-- Every val3 is so made, of parts in their ranges.
+pub val3-whole : (v : ℕ)
+    → (opField v < 2 ^ codeBits)
+    × (cmpField v < 2 ^ codeBits)
+    × Within argBits (opArg v)
+    × Within argBits (cmpArg v)
+    × (v < wordLimit → val3Of (opField v) (opArg v) (cmpField v) (cmpArg v) ≡ v)
+val3-whole = WakeOp′.val3-whole
+
+-- "the old word is compared as a signed 32-bit number": a word that holds the number z is compared with cmparg as z.
+pub compares-signed : (v : ℕ) (z : ℤ) → Within wordBits z → compares v (modulo wordLimit z) ≡ compareBy eqZ ltZ (cmpField v) z (cmpArg v)
+compares-signed = WakeOp′.compares-signed
+
+-- "A negative operand is taken modulo 2^32 for every operation. The power-of-two operand is still 2 to the power (oparg mod 32)."
+pub operand-signed : (v : ℕ) → opField v < shiftBit → operand v ≡ modulo wordLimit (opArg v)
+operand-signed = WakeOp′.operand-signed
+
+pub operand-power : (v : ℕ) → shiftBit ≤ opField v → operand v ≡ 2 ^ modulo wordBits (opArg v)
+operand-power = WakeOp′.operand-power
+
+-- "a counter that goes below zero": a word that holds z and is added to holds the sum, modulo 2^32.
+pub add-signed : (v : ℕ) (z : ℤ) → opField v ≡ 1 → newWord v (modulo wordLimit z) ≡ modulo wordLimit (z +ℤ opArg v)
+add-signed = WakeOp′.add-signed
+
+-- What did not change: every event is answered and leaves what the rules before gave, but for a WAKE_OP one of whose numbers is negative now
+-- (oparg, unless it is an exponent, cmparg or the old word).
+pub as-before-signs : (e : Event) (w : World) → noneNegative e w ≡ true → step e w ≡ stepUnsigned e w
+as-before-signs = Before.as-before-signs
+
+-- So it is with a WAKE_OP whose oparg and cmparg are below 2048, where the old word is below 2^31.
+pub as-before-below : (c : Call) (w : World) → opArgField (c .val3) < 2048 → cmpArgField (c .val3) < 2048 → wordAt w (c .process) (c .uaddr2) < 2147483648
+    → step (CallEvent c) w ≡ stepUnsigned (CallEvent c) w
+as-before-below = Before.as-before-below
 
 -- Demand 2, waits.
 
@@ -232,7 +283,7 @@ no-lost-wake c w n wake answer enough h t own asleep =
     (LostWake.wake-empties c w n wake answer enough t own))
     (λ s. s)
 
--- The twelve cases of document 01, P1 to P12, come out as it says.
+-- The twelve cases of document 01, P1 to P12, come out as it says, P8 as request (ii) amends it.
 pub twelve-cases : map given twelve ≡ twelve
 twelve-cases = Cases.as-document-01-says
 
@@ -243,6 +294,16 @@ further-cases = Cases.further-given
 -- each reason alone and each pair of them,
 pub reasons-of-cases : map reasonedAs reasoned ≡ reasoned
 reasons-of-cases = Cases.reasons-given
+
+-- WAKE_OP's comparisons and operations at the edges of its signed numbers, and whole calls, each beside what it was,
+pub comparisons-of-cases : map comparedAs comparisons ≡ comparisons
+comparisons-of-cases = Cases.compared-given
+
+pub operations-of-cases : map storedAs operations ≡ operations
+operations-of-cases = Cases.stored-given
+
+pub calls-of-cases : map calledAs calls ≡ calls
+calls-of-cases = Cases.called-given
 
 -- what each process is answered and what is kept for it of one history of several,
 pub mixed-history : map shareOf shares ≡ shares

@@ -1,32 +1,40 @@
--- The rules before request (i), which are document 01's: one row for -22, and no reason beside any error. They stand here for the comparison
--- with the rules that hold now, `as-before` (proofs/Theorems.antt), and nothing else uses them.
-use mathlib.Core.Bool.{not, cond}
+-- The rules before each request that changed them: those that hold now, with the one thing that the request changed as it was. They stand here
+-- for the comparisons with the rules that hold now (proofs/Theorems.antt), and nothing else uses them.
+use mathlib.Core.Bool.{Bool, true, not, cond, _&&_, _||_}
 use mathlib.Core.List.{List, [], _∷_, _++_}
-use lib.Dec.{ltb}
+use Prim.Native.Nat.{ℕ, _%_, _^_}
+use lib.Dec.{eqb, ltb}
+use Rattle.rules.specs.declared.event.Command.{Command}
+use Rattle.rules.specs.declared.event.Call.{Call}
 use Rattle.rules.specs.declared.event.Event.{Event}
-use Rattle.rules.specs.declared.event.Event.the-variants.{Call, Store, Clock, Interrupt, Query}
+use Rattle.rules.specs.declared.event.Event.the-variants.{Call as CallEvent, Store, Clock, Interrupt, Query}
 use Rattle.rules.specs.declared.answer.Errno.the-variants.{ESRCH, EINVAL, EFAULT}
 use Rattle.rules.specs.declared.answer.Answer.{Answer}
 use Rattle.rules.specs.declared.answer.Answer.the-variants.{Asleep, Count, Refused, Waiting}
+use Rattle.tables.specs.Sizes.{wordBits}
 use Rattle.tables.specs.Tables.{World, threadOf, wordAt, aligned, outside}
 use Rattle.rules.specs.Answers.{Row, plain, _when_, first, Outcome, judged}
 use Rattle.rules.specs.Commands.{commandOf}
-use Rattle.rules.specs.Calls.{firstRows, noProcess, noThread, caller, badArgument, tableWith}
-use Rattle.rules.specs.Events.{isQuery, effect}
+use Rattle.rules.specs.Signed.{negative}
+use Rattle.rules.specs.WakeOp.{argBits, cmpField, opArgField, cmpArgField, isPower, opCode, operate, compareBy}
+use Rattle.rules.specs.Calls.{firstRows, noProcess, noThread, caller, badArgument, isWakeOp, tableWith, oldWord, secondBy, wakeOpBy}
+use Rattle.rules.specs.Events.{isQuery, refusals, effect}
 
-abbrev pub ownRowsBefore : Event → World → List Row
-ownRowsBefore (Call c) w =
+-- Before request (i): document 01's one row for -22, and no reason beside any error.
+
+abbrev pub ownRowsWithoutReasons : Event → World → List Row
+ownRowsWithoutReasons (CallEvent c) w =
     tableWith (EINVAL when badArgument (commandOf (c .op)) c ∷ []) c (threadOf (w .state) (caller c) .waiting) (w .state .clock) (w .state .count) (wordAt w (c .process) (c .uaddr))
-ownRowsBefore (Store p a v) w = ESRCH when noProcess p ∷ EINVAL when not (aligned a) ∷ EFAULT when outside a ∷ []
-ownRowsBefore (Clock now) w = EINVAL when ltb now (w .state .clock) ∷ []
-ownRowsBefore (Interrupt p i) w = ESRCH when noThread p i ∷ []
-ownRowsBefore (Query p) w = []
+ownRowsWithoutReasons (Store p a v) w = ESRCH when noProcess p ∷ EINVAL when not (aligned a) ∷ EFAULT when outside a ∷ []
+ownRowsWithoutReasons (Clock now) w = EINVAL when ltb now (w .state .clock) ∷ []
+ownRowsWithoutReasons (Interrupt p i) w = ESRCH when noThread p i ∷ []
+ownRowsWithoutReasons (Query p) w = []
 
-unfoldable pub refusalsBefore : Event → World → List Row
-refusalsBefore e w = cond (isQuery e) [] (firstRows w ++ ownRowsBefore e w)
+unfoldable pub refusalsWithoutReasons : Event → World → List Row
+refusalsWithoutReasons e w = cond (isQuery e) [] (firstRows w ++ ownRowsWithoutReasons e w)
 
-unfoldable pub stepBefore : Event → World → Outcome
-stepBefore e w = judged (first (refusalsBefore e w)) (effect e w) w
+unfoldable pub stepWithoutReasons : Event → World → Outcome
+stepWithoutReasons e w = judged (first (refusalsWithoutReasons e w)) (effect e w) w
 
 -- an answer, its reason taken away
 abbrev pub withoutReason : Answer → Answer
@@ -34,3 +42,40 @@ withoutReason Asleep = Asleep
 withoutReason (Count n) = Count n
 withoutReason (Refused x) = Refused (plain (x .errno))
 withoutReason (Waiting v) = Waiting v
+
+-- Before request (ii): document 01's WAKE_OP, "oparg, cmparg and comparisons are unsigned".
+
+abbrev pub operandUnsigned : ℕ → ℕ
+operandUnsigned v = cond (isPower v) (2 ^ (opArgField v % wordBits)) (opArgField v)
+
+abbrev pub newWordUnsigned : ℕ → ℕ → ℕ
+newWordUnsigned v old = operate (opCode v) (operandUnsigned v) old
+
+abbrev pub comparesUnsigned : ℕ → ℕ → Bool
+comparesUnsigned v old = compareBy eqb ltb (cmpField v) old (cmpArgField v)
+
+abbrev pub wakeOpUnsigned : Command → Call → World → Outcome
+wakeOpUnsigned k c w = wakeOpBy (newWordUnsigned (c .val3) (oldWord c w)) (secondBy comparesUnsigned k c w) k c w
+
+abbrev pub effectUnsigned : Event → World → Outcome
+effectUnsigned (CallEvent c) w = let k = commandOf (c .op) in cond (isWakeOp k) (wakeOpUnsigned k c w) (effect (CallEvent c) w)
+effectUnsigned (Store p a v) w = effect (Store p a v) w
+effectUnsigned (Clock now) w = effect (Clock now) w
+effectUnsigned (Interrupt p i) w = effect (Interrupt p i) w
+effectUnsigned (Query p) w = effect (Query p) w
+
+unfoldable pub stepUnsigned : Event → World → Outcome
+stepUnsigned e w = judged (first (refusals e w)) (effectUnsigned e w) w
+
+-- an event that is no WAKE_OP, or one none of whose numbers is negative now: oparg and cmparg are below 2048 and the old word below 2^31; "The
+-- power-of-two operand is still 2 to the power (oparg mod 32)", whatever oparg
+abbrev pub noneNegative : Event → World → Bool
+noneNegative (CallEvent c) w =
+    not (isWakeOp (commandOf (c .op)))
+    || (isPower (c .val3) || not (negative argBits (opArgField (c .val3))))
+    && not (negative argBits (cmpArgField (c .val3)))
+    && not (negative wordBits (oldWord c w))
+noneNegative (Store p a v) w = true
+noneNegative (Clock now) w = true
+noneNegative (Interrupt p i) w = true
+noneNegative (Query p) w = true

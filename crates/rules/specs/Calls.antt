@@ -141,12 +141,19 @@ released k c s = take (c .val) (candidates (matches k c) (c .process) (c .uaddr)
 unfoldable pub moved : Command → Call → State → List ℕ
 moved k c s = take (secondCap c) (drop (c .val) (candidates (matches k c) (c .process) (c .uaddr) s))
 
--- "then, if old compares true with cmparg, the first of those still asleep at uaddr2, up to the second cap"
-unfoldable pub releasedSecond : Command → Call → World → List ℕ
-releasedSecond k c w =
-    cond (compares (c .val3) (wordAt w (c .process) (c .uaddr2)))
+-- "The old word at uaddr2"
+abbrev pub oldWord : Call → World → ℕ
+oldWord c w = wordAt w (c .process) (c .uaddr2)
+
+-- "then, if old compares true with cmparg, the first of those still asleep at uaddr2, up to the second cap", by what val3 and old are compared by
+abbrev pub secondBy : (ℕ → ℕ → Bool) → Command → Call → World → List ℕ
+secondBy holds k c w =
+    cond (holds (c .val3) (oldWord c w))
     (take (secondCap c) (without (released k c (w .state)) (candidates (matches k c) (c .process) (c .uaddr2) (w .state))))
     []
+
+unfoldable pub releasedSecond : Command → Call → World → List ℕ
+releasedSecond k c w = secondBy compares k c w
 
 -- WAIT 0, WAIT_BITSET 9
 unfoldable pub wait : Command → Call → World → Outcome
@@ -171,13 +178,17 @@ requeue k c w =
     (Count (length (released k c (w .state)) + cond (uses k .compare) (length (moved k c (w .state))) 0))
     (withState (moveSleeps (c .uaddr2) (moved k c (w .state)) (endSleeps Woken (released k c (w .state)) (w .state))) w)
 
--- WAKE_OP 5: "The old word at uaddr2 is kept aside, the new word stored, the first val released at uaddr, then .." "Answer: the sum."
-unfoldable pub wakeOp : Command → Call → World → Outcome
-wakeOp k c w =
+-- WAKE_OP 5: "The old word at uaddr2 is kept aside, the new word stored, the first val released at uaddr, then .." "Answer: the sum.", by the
+-- new word and those whom it releases at uaddr2
+abbrev pub wakeOpBy : ℕ → List ℕ → Command → Call → World → Outcome
+wakeOpBy new second k c w =
     outcome
-    (Count (length (released k c (w .state)) + length (releasedSecond k c w)))
-    (writeWord (c .process) (c .uaddr2) (newWord (c .val3) (wordAt w (c .process) (c .uaddr2)))
-    (withState (endSleeps Woken (released k c (w .state) ++ releasedSecond k c w) (w .state)) w))
+    (Count (length (released k c (w .state)) + length second))
+    (writeWord (c .process) (c .uaddr2) new
+    (withState (endSleeps Woken (released k c (w .state) ++ second) (w .state)) w))
+
+unfoldable pub wakeOp : Command → Call → World → Outcome
+wakeOp k c w = wakeOpBy (newWord (c .val3) (oldWord c w)) (releasedSecond k c w) k c w
 
 -- What a call does where no row applies; that an unknown command is refused was tested before.
 unfoldable pub callEffect : Command → Call → World → Outcome

@@ -18,7 +18,7 @@ use Rattle.rules.specs.Events.{step}
 use Rattle.rules.specs.History.{start, final, answers, answersTo, keptFor}
 
 -- the words are of process 0, and most cases use the one at this address
-abbrev address : ℕ
+abbrev pub address : ℕ
 address = 8
 
 abbrev other : ℕ
@@ -47,6 +47,14 @@ waitMask i m = callBy i 9 address 0 0 0 0 m
 
 abbrev byWaker : ℕ → ℕ → ℕ → ℕ → ℕ → ℕ → Event
 byWaker op a v cap2 a2 v3 = callBy waker op a v 0 cap2 a2 v3
+
+-- a WAKE_OP that releases nobody at another word and, if its comparison holds, one here
+abbrev pub wakeOpAt : ℕ → Event
+wakeOpAt v3 = byWaker 5 other 0 1 address v3
+
+-- a thread sleeps at a word of all ones
+abbrev pub asleepAtMinusOne : List Event
+asleepAtMinusOne = Store 0 address 4294967295 ∷ waitFor 0 address 4294967295 ∷ []
 
 -- a sleeper as it is to be seen: its number, address, mask and deadline
 pub record Sleeper : Type 0 where
@@ -125,10 +133,10 @@ twelve =
     ∷ line (threeAsleep ++ (byWaker 4 address 1 1 other 0 ∷ [])) (asleep ∷ asleep ∷ asleep ∷ number 2 ∷ []) (until 2 address 12 ∷ until 1 other 11 ∷ []) (woken 0 ∷ []) 0
     -- P7 the same by REQUEUE: 1
     ∷ line (threeAsleep ++ (byWaker 3 address 1 1 other 0 ∷ [])) (asleep ∷ asleep ∷ asleep ∷ number 1 ∷ []) (until 2 address 12 ∷ until 1 other 11 ∷ []) (woken 0 ∷ []) 0
-    -- P8 WAKE_OP 0x14001000 on word 4294967295: word becomes 0, comparison true
-    ∷ line (Store 0 address 4294967295 ∷ waitFor 0 address 4294967295 ∷ byWaker 5 other 0 1 address 0x14001000 ∷ []) (number 0 ∷ asleep ∷ number 1 ∷ []) [] (woken 0 ∷ []) 0
+    -- P8 WAKE_OP 0x14001000 on word 4294967295: "P8 now has a false comparison (-1 is not above 0) and the word still becomes 0"
+    ∷ line (asleepAtMinusOne ++ (wakeOpAt 0x14001000 ∷ [])) (number 0 ∷ asleep ∷ number 0 ∷ []) (at 0 address ∷ []) [] 0
     -- P9 WAKE_OP 0xB0021003 on 3: word 1, true
-    ∷ line (Store 0 address 3 ∷ waitFor 0 address 3 ∷ byWaker 5 other 0 1 address 0xB0021003 ∷ []) (number 0 ∷ asleep ∷ number 1 ∷ []) [] (woken 0 ∷ []) 1
+    ∷ line (Store 0 address 3 ∷ waitFor 0 address 3 ∷ wakeOpAt 0xB0021003 ∷ []) (number 0 ∷ asleep ∷ number 1 ∷ []) [] (woken 0 ∷ []) 1
     -- P10 clock 5, WAIT timeout 10: clock 14 ends none, 15 ends one, then 14 is -22
     ∷ line (Clock 5 ∷ waitUntil 0 0 10 ∷ Clock 14 ∷ []) (number 0 ∷ asleep ∷ number 0 ∷ []) (until 0 address 15 ∷ []) [] 0
     ∷ line (Clock 5 ∷ waitUntil 0 0 10 ∷ Clock 14 ∷ Clock 15 ∷ Clock 14 ∷ []) (number 0 ∷ asleep ∷ number 0 ∷ number 1 ∷ minus 22 ∷ []) [] (timedOut 0 ∷ []) 0
@@ -154,7 +162,7 @@ further =
     -- a store: not aligned -22, outside -14
     ∷ line (Store 0 9 1 ∷ Store 0 4096 1 ∷ Store 0 4097 1 ∷ Store 0 address 7 ∷ []) (minus 22 ∷ minus 14 ∷ minus 22 ∷ number 0 ∷ []) [] [] 7
     -- WAKE_OP with an undefined operation or comparison: -38, and the word stays
-    ∷ line (byWaker 5 other 0 1 address 0x50000000 ∷ byWaker 5 other 0 1 address 0x06000000 ∷ []) (minus 38 ∷ minus 38 ∷ []) [] [] 0
+    ∷ line (wakeOpAt 0x50000000 ∷ wakeOpAt 0x06000000 ∷ []) (minus 38 ∷ minus 38 ∷ []) [] [] 0
     ∷ []
 
 -- Reasons: an event at time 5, from the fresh state over zero words, its number and its reason. Each reason alone, then each pair that can

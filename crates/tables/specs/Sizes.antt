@@ -18,8 +18,11 @@ abbrev pub memoryWords : ℕ
 memoryWords = processes * wordsPerProcess
 
 -- a word holds a number below 2^32, a time one below 2^64
+abbrev pub wordBits : ℕ
+wordBits = 32
+
 abbrev pub wordLimit : ℕ
-wordLimit = 2 ^ 32
+wordLimit = 2 ^ wordBits
 
 abbrev pub timeLimit : ℕ
 timeLimit = 2 ^ 64

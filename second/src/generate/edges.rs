@@ -1,6 +1,6 @@
 //! The edge script: the twelve cases of document 01, its edge numbers, every
-//! refusal and the order between them, the slips it names, and the reasons of
-//! document 02.
+//! refusal and the order between them, the slips it names, and the reasons and
+//! the signed WAKE_OP of document 02.
 
 mod arguments;
 mod broken;

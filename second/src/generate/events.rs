@@ -7,6 +7,7 @@ use crate::model::{
     WAIT, WAIT_BITSET, WAKE, WAKE_BITSET, WAKE_OP, WORDS_PER_PROCESS,
 };
 use crate::rng::Rng;
+use crate::shorthand as s;
 
 pub const EDGE_U32: &[u32] =
     &[0, 1, 2, 3, 255, 2147483647, 2147483648, 2147483649, u32::MAX - 1, u32::MAX];
@@ -46,12 +47,19 @@ pub const EDGE_ADDRESSES: &[u32] = &[
 ];
 pub const MASKS: &[u32] = &[1, 2, 3, 4, 6, 1 << 31, u32::MAX];
 pub const COMMANDS: &[u32] = &[WAIT, WAIT_BITSET, WAKE, WAKE_BITSET, REQUEUE, CMP_REQUEUE, WAKE_OP];
+/// Words by the numbers that WAKE_OP takes them for: both ends, and both sides
+/// of what a cmparg can be.
+const EDGE_WORDS: &[i32] = &[i32::MIN, -2049, -2048, -2, -1, 0, 1, 2047, 2048, i32::MAX];
+const EDGE_OPARGS: &[i32] = &[-2048, -33, -32, -31, -2, -1, 0, 1, 2, 3, 31, 32, 33, 2047];
+const EDGE_CMPARGS: &[i32] = &[-2048, -2, -1, 0, 1, 2, 3, 2047];
 
 /// The next event of a history that has come to these tables and words.
 pub fn next(rng: &mut Rng, state: &State, words: &[u32]) -> Event {
     match rng.below(100) {
         0..=71 => Event::Call(call(rng, state, words)),
-        72..=79 => Event::Store { process: process(rng), address: address(rng), value: value(rng) },
+        72..=79 => {
+            Event::Store { process: process(rng), address: address(rng), value: stored(rng) }
+        }
         80..=86 => Event::Clock { time: near_clock(rng, state.clock) },
         87..=92 => Event::Interrupt { process: process(rng), index: index(rng) },
         _ => Event::Query { process: process(rng) },
@@ -101,6 +109,15 @@ fn value(rng: &mut Rng) -> u32 {
     }
 }
 
+/// What a store leaves for WAKE_OP to compare.
+fn stored(rng: &mut Rng) -> u32 {
+    if rng.percent(40) {
+        rng.pick(EDGE_WORDS) as u32
+    } else {
+        value(rng)
+    }
+}
+
 fn cap(rng: &mut Rng) -> u32 {
     if rng.percent(85) {
         rng.below(5) as u32
@@ -132,7 +149,9 @@ fn op(rng: &mut Rng) -> u32 {
     let command = match rng.below(100) {
         0..=29 => WAIT,
         30..=51 => WAIT_BITSET,
-        52..=97 => rng.pick(COMMANDS),
+        // It has the most to try.
+        52..=56 => WAKE_OP,
+        57..=97 => rng.pick(COMMANDS),
         _ => rng.below(16) as u32,
     };
     let bits = match rng.below(100) {
@@ -193,22 +212,21 @@ pub fn call(rng: &mut Rng, state: &State, words: &[u32]) -> Call {
         uaddr2: rng.pick(EDGE_ADDRESSES),
         val3: value(rng),
     };
-    let word = word_at(words, process, call.uaddr);
     match call.op & 127 {
-        WAIT | WAIT_BITSET => fit_wait(rng, state.clock, word, &mut call),
+        WAIT | WAIT_BITSET => fit_wait(rng, state.clock, words, &mut call),
         WAKE | WAKE_BITSET => {
             call.val = cap(rng);
             call.val3 = mask(rng);
         }
-        REQUEUE | CMP_REQUEUE | WAKE_OP => fit_second(rng, word, &mut call),
+        REQUEUE | CMP_REQUEUE | WAKE_OP => fit_second(rng, words, &mut call),
         _ => {}
     }
     call
 }
 
-fn fit_wait(rng: &mut Rng, clock: u64, word: u32, call: &mut Call) {
+fn fit_wait(rng: &mut Rng, clock: u64, words: &[u32], call: &mut Call) {
     if rng.percent(88) {
-        call.val = word;
+        call.val = word_at(words, call.process, call.uaddr);
     }
     call.val3 = mask(rng);
     if rng.percent(90) {
@@ -216,7 +234,7 @@ fn fit_wait(rng: &mut Rng, clock: u64, word: u32, call: &mut Call) {
     }
 }
 
-fn fit_second(rng: &mut Rng, word: u32, call: &mut Call) {
+fn fit_second(rng: &mut Rng, words: &[u32], call: &mut Call) {
     call.val = if rng.percent(80) { rng.below(3) as u32 } else { cap(rng) };
     call.uaddr2 = second_address(rng);
     call.timeout = if rng.percent(90) { cap(rng) as u64 } else { rng.pick(EDGE_U64) };
@@ -225,18 +243,36 @@ fn fit_second(rng: &mut Rng, word: u32, call: &mut Call) {
         call.timeout = call.timeout % (1 << 32) + (rng.below(4) << 32);
     }
     if call.op & 127 == WAKE_OP {
-        call.val3 = operation(rng);
+        call.val3 = operation(rng, word_at(words, call.process, call.uaddr2));
     } else if rng.percent(85) {
-        call.val3 = word;
+        call.val3 = word_at(words, call.process, call.uaddr);
     }
 }
 
-/// WAKE_OP's val3: mostly defined operations, small and edge operands.
-fn operation(rng: &mut Rng) -> u32 {
+/// WAKE_OP's val3 for an old word: mostly defined operations, small and edge
+/// operands.
+fn operation(rng: &mut Rng, old: u32) -> u32 {
     let action = if rng.percent(92) { rng.below(5) } else { rng.below(8) } as u32;
     let shift = rng.below(2) as u32 * 8;
     let cmp = if rng.percent(92) { rng.below(6) } else { rng.below(16) } as u32;
-    let oparg = rng.pick(&[0, 1, 2, 3, 31, 32, 33, 2047, 2048, 4095]);
-    let cmparg = rng.pick(&[0, 1, 2, 3, 2048, 4095]);
-    (action | shift) << 28 | cmp << 24 | oparg << 12 | cmparg
+    let oparg = if rng.percent(90) { rng.pick(EDGE_OPARGS) } else { any_argument(rng) };
+    s::val3(action | shift, cmp, oparg, cmparg(rng, old))
+}
+
+/// The old word or a neighbour of it, as far as 12 bits reach, comes often:
+/// otherwise some comparisons would nearly always go the same way.
+fn cmparg(rng: &mut Rng, old: u32) -> i32 {
+    match rng.below(100) {
+        0..=34 => {
+            let near = (old as i32).saturating_add(rng.below(3) as i32 - 1);
+            near.clamp(-2048, 2047)
+        }
+        35..=89 => rng.pick(EDGE_CMPARGS),
+        _ => any_argument(rng),
+    }
+}
+
+/// Any number that an oparg or a cmparg can be.
+fn any_argument(rng: &mut Rng) -> i32 {
+    rng.below(4096) as i32 - 2048
 }

@@ -200,13 +200,25 @@ fn wake_op(state: &mut State, words: &mut [u32], call: &Call) -> i32 {
     released
 }
 
+/// What a field of so many bits stands for as a signed number: the upper half
+/// of its values is below 0.
+fn signed(field: u32, bits: u32) -> i64 {
+    let field = i64::from(field);
+    let values = 1 << bits;
+    if field < values / 2 {
+        field
+    } else {
+        field - values
+    }
+}
+
 /// WAKE_OP's val3 taken apart: from the top 4 bits op, 4 cmp, 12 oparg,
 /// 12 cmparg.
 struct Operation {
     action: u32,
     operand: u32,
     comparison: u32,
-    cmparg: u32,
+    cmparg: i64,
 }
 
 impl Operation {
@@ -214,14 +226,19 @@ impl Operation {
     fn of(val3: u32) -> Option<Operation> {
         let op = val3 >> 28;
         let comparison = (val3 >> 24) & 15;
-        let oparg = (val3 >> 12) & 4095;
-        let cmparg = val3 & 4095;
+        let oparg = signed((val3 >> 12) & 4095, 12);
+        let cmparg = signed(val3 & 4095, 12);
         let action = op & 7;
         if action > 4 || comparison > 5 {
             return None;
         }
-        let operand = if op & 8 != 0 { 1 << (oparg % 32) } else { oparg };
-        Some(Operation { action, operand, comparison, cmparg })
+        let operand = if op & 8 != 0 {
+            // The field itself would do as well, for 32 divides 4096.
+            1 << oparg.rem_euclid(32)
+        } else {
+            oparg.rem_euclid(1 << 32)
+        };
+        Some(Operation { action, operand: operand as u32, comparison, cmparg })
     }
 
     fn new_word(&self, old: u32) -> u32 {
@@ -234,8 +251,9 @@ impl Operation {
         }
     }
 
-    /// Unsigned, old word against cmparg.
+    /// The old word against cmparg, both as signed numbers.
     fn compares_true(&self, old: u32) -> bool {
+        let old = signed(old, 32);
         match self.comparison {
             0 => old == self.cmparg,
             1 => old != self.cmparg,

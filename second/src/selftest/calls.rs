@@ -11,8 +11,6 @@ pub fn run(checks: &mut Checks) {
     deadlines(checks);
     private_futexes(checks);
     requeue_places(checks);
-    operations(checks);
-    undefined_operations(checks);
     full_list(checks);
 }
 
@@ -139,50 +137,6 @@ fn requeue_places(checks: &mut Checks) {
     checks.equal("first there", display.text(s::wake((0, 0), 16, 2)), "2".into());
     checks.equal("in order", display.listed(), vec![12, 5, 3]);
     checks.equal("woken", display.state.threads[1].last, WOKEN);
-}
-
-/// Each operation and comparison of WAKE_OP by hand.
-fn operations(checks: &mut Checks) {
-    for (old, val3, new, released) in [
-        (9, 0x00005009, 5, "1"),
-        (9, 0x10005009, 14, "1"),
-        (9, 0x20006009, 15, "1"),
-        (9, 0x30001009, 8, "1"),
-        (9, 0x40003009, 10, "1"),
-        (9, 0x8001f009, 1 << 31, "1"),
-        (9, 0x80020009, 1, "1"),
-        (9, 0xa0fff009, 9 | 1 << 31, "1"),
-        (9, 0x01000009, 0, "0"),
-        (9, 0x02000009, 0, "0"),
-        (8, 0x02000009, 0, "1"),
-        (9, 0x03000009, 0, "1"),
-        (10, 0x03000009, 0, "0"),
-        (9, 0x04000009, 0, "0"),
-        (u32::MAX, 0x04000fff, 0, "1"),
-        (9, 0x05000009, 0, "1"),
-        (8, 0x05000009, 0, "0"),
-        (u32::MAX, 0x10fff000, 4094, "0"),
-    ] {
-        let mut display = Display::after(&[s::store(0, 4, old), s::wait((0, 1), 4, old)]);
-        let call = s::wake_op((0, 0), 8, 4, (9, 9), val3);
-        let name = format!("WAKE_OP {val3:08x}");
-        checks.equal(&name, display.text(call), released.into());
-        checks.equal(&name, display.words[1], new);
-    }
-}
-
-fn undefined_operations(checks: &mut Checks) {
-    for code in 0..256u32 {
-        let mut display = Display::after(&[s::store(0, 4, 7), s::wait((0, 1), 8, 0)]);
-        let call = s::wake_op((0, 0), 8, 4, (1, 1), code << 24);
-        let defined = (code >> 4) % 8 <= 4 && code % 16 <= 5;
-        let name = format!("WAKE_OP code {code:02x}");
-        let want = if defined { "1" } else { "-38" };
-        checks.equal(&name, display.text(call), want.into());
-        if !defined {
-            checks.equal(&name, (display.words[1], display.listed()), (7, vec![1]));
-        }
-    }
 }
 
 /// With 63 asleep the last thread can still sleep; then nobody can call.

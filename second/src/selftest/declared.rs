@@ -1,7 +1,8 @@
-//! The rules of document 01 and request (i) of document 02 said once more, in
-//! another way: refusals as the table of answers, reasons as a set, effects as
-//! sets of threads taken from queues. It builds whole new tables and words, to
-//! be compared with what `step` left behind.
+//! The rules of document 01 and requests (i) and (ii) of document 02 said once
+//! more, in another way: refusals as the table of answers, reasons as a set,
+//! effects as sets of threads taken from queues, WAKE_OP's signed numbers by
+//! moving their bits. It builds whole new tables and words, to be compared with
+//! what `step` left behind.
 
 use std::collections::BTreeSet;
 
@@ -248,32 +249,50 @@ fn requeue(after: &mut State, here: &[usize], call: &Call, sum: bool) -> Answer 
 fn wake_op(state: &State, after: &mut State, words: &mut [u32], call: &Call) -> Answer {
     let place = word(call.process, call.uaddr2);
     let old = words[place];
-    let (oparg, cmparg) = (call.val3 << 8 >> 20, call.val3 << 20 >> 20);
-    let operand = if call.val3 >> 31 == 1 { 2u64.pow(oparg & 31) } else { oparg as u64 };
-    let new = match call.val3 >> 28 & 7 {
-        0 => operand,
-        1 => old as u64 + operand,
-        2 => old as u64 | operand,
-        3 => (old as u64 | operand) - operand,
-        _ => (old as u64 | operand) - (old as u64 & operand),
-    };
-    words[place] = new as u32;
-    let order = old.cmp(&cmparg);
-    let compares_true = match call.val3 >> 24 & 15 {
-        0 => order.is_eq(),
-        1 => order.is_ne(),
-        2 => order.is_lt(),
-        3 => order.is_le(),
-        4 => order.is_gt(),
-        _ => order.is_ge(),
-    };
+    words[place] = new_word(old, call.val3);
     let mut ended = queue_at(state, call.process, call.uaddr);
     ended.truncate(call.val as usize);
-    if compares_true {
+    if compares_true(old, call.val3) {
         let mut there = queue_at(state, call.process, call.uaddr2);
         there.retain(|t| !ended.contains(t));
         there.truncate(call.timeout as u32 as usize);
         ended.extend(there);
     }
     end(after, &ended, 1)
+}
+
+/// 12 bits of val3, from a bit on, as a signed number: they go to the top of
+/// the 32 and come back with their sign.
+fn signed_field(val3: u32, lowest: u32) -> i32 {
+    (val3 << (20 - lowest)) as i32 >> 20
+}
+
+/// What a WAKE_OP stores, in a width where no sum can wrap.
+fn new_word(old: u32, val3: u32) -> u32 {
+    let old = old as u64;
+    let power = val3 >> 31 == 1;
+    // The last five bits of oparg are oparg modulo 32.
+    let operand =
+        if power { 2u64.pow(val3 >> 12 & 31) } else { signed_field(val3, 12) as u32 as u64 };
+    let new = match val3 >> 28 & 7 {
+        0 => operand,
+        1 => old + operand,
+        2 => old | operand,
+        3 => (old | operand) - operand,
+        _ => (old | operand) - (old & operand),
+    };
+    new as u32
+}
+
+/// Whether a WAKE_OP goes on to the second word's sleepers.
+pub fn compares_true(old: u32, val3: u32) -> bool {
+    let order = (old as i32).cmp(&signed_field(val3, 0));
+    match val3 >> 24 & 15 {
+        0 => order.is_eq(),
+        1 => order.is_ne(),
+        2 => order.is_lt(),
+        3 => order.is_le(),
+        4 => order.is_gt(),
+        _ => order.is_ge(),
+    }
 }

@@ -1,9 +1,11 @@
 //! Random histories: each event against the rules said another way, and
 //! demand 3, that no other process can be noticed.
 
+use std::collections::BTreeMap;
+
 use super::{declared, Checks, Display};
 use crate::generate::{events, tables};
-use crate::model::{Event, Report, THREADS_PER_PROCESS, WORDS, WORDS_PER_PROCESS};
+use crate::model::{Call, Event, Report, THREADS_PER_PROCESS, WAKE_OP, WORDS, WORDS_PER_PROCESS};
 use crate::rng::Rng;
 
 pub fn run(checks: &mut Checks) {
@@ -14,6 +16,7 @@ pub fn run(checks: &mut Checks) {
         isolation(checks, seed);
     }
     frequent(checks);
+    frequent_comparisons(checks);
 }
 
 /// Whole outcomes, from fresh tables and from tables at random.
@@ -119,7 +122,7 @@ fn view(display: &Display, process: u8) -> View {
 fn frequent(checks: &mut Checks) {
     let mut rng = Rng::new(99);
     let mut display = Display::fresh();
-    let mut seen = std::collections::BTreeMap::new();
+    let mut seen = BTreeMap::new();
     let mut reasons = [0; 8];
     for round in 0..20000 {
         if round % 500 == 0 {
@@ -137,4 +140,49 @@ fn frequent(checks: &mut Checks) {
     for (reason, times) in reasons.into_iter().enumerate() {
         checks.holds(&format!("reason {reason} is frequent, {times}"), times >= 50);
     }
+}
+
+/// The same of WAKE_OP's comparisons: each goes both ways with old words and
+/// cmpargs of each sign. Where the signs differ only one way can be, so they
+/// are six cases for each comparison.
+fn frequent_comparisons(checks: &mut Checks) {
+    let mut rng = Rng::new(100);
+    let mut display = Display::fresh();
+    let mut seen = BTreeMap::new();
+    for round in 0..200_000 {
+        if round % 500 == 0 {
+            display.state = tables::sound(&mut rng);
+        }
+        let event = events::next(&mut rng, &display.state, &display.words);
+        if let Some(comparison) = shown_comparison(&display, &event) {
+            *seen.entry(comparison).or_insert(0) += 1;
+        }
+        display.answer(event);
+    }
+    checks.equal("cases of comparisons", seen.len(), 36);
+    for (comparison, times) in seen {
+        checks.holds(&format!("{comparison:?} is frequent, {times}"), times >= 10);
+    }
+}
+
+/// cmp, whether the old word and cmparg are negative, and the outcome: of a
+/// WAKE_OP that the opposite comparison would give another answer.
+fn shown_comparison(display: &Display, event: &Event) -> Option<(u32, bool, bool, bool)> {
+    let Event::Call(call) = *event else {
+        return None;
+    };
+    if call.op & 127 != WAKE_OP {
+        return None;
+    }
+    let cmp = call.val3 >> 24 & 15;
+    let opposite = *[1, 0, 5, 4, 3, 2].get(cmp as usize)?;
+    let turned = Call { val3: call.val3 & !(15 << 24) | opposite << 24, ..call };
+    let answers = [call, turned].map(|call| display.clone().answer(Event::Call(call)));
+    if answers[0] == answers[1] {
+        return None;
+    }
+    // Nothing refuses this call, so the word is there.
+    let old = display.words[WORDS_PER_PROCESS * call.process as usize + call.uaddr2 as usize / 4];
+    let truth = declared::compares_true(old, call.val3);
+    Some((cmp, old > 2147483647, call.val3 % 4096 > 2047, truth))
 }

@@ -1,4 +1,4 @@
-//! P1 to P12, and the whole case of the log.
+//! P1 to P12, P8 as request (ii) amends it, and the whole case of the log.
 
 use super::{Checks, Display};
 use crate::log;
@@ -59,11 +59,15 @@ fn p6_and_p7(checks: &mut Checks) {
 }
 
 fn p8_and_p9(checks: &mut Checks) {
-    for (old, val3, new) in [(u32::MAX, 0x14001000, 0), (3, 0xB0021003, 1)] {
+    // P8 compares false and leaves the second word's sleeper, P9 releases both.
+    for (old, val3, new, released, left) in
+        [(u32::MAX, 0x14001000, 0, "1", vec![1]), (3, 0xB0021003, 1, "2", vec![])]
+    {
         let mut display =
             Display::after(&[s::store(0, 4, old), s::wait((0, 1), 4, old), s::wait((0, 2), 8, 0)]);
         let call = s::wake_op((0, 0), 8, 4, (1, 1), val3);
-        checks.equal("P8, P9: both released", display.text(call), "2".into());
+        checks.equal("P8, P9", display.text(call), released.into());
+        checks.equal("P8, P9: list", display.listed(), left);
         checks.equal("P8, P9: word", display.words[1], new);
     }
 }

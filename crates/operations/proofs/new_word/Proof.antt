@@ -2,7 +2,7 @@ use borrow.Author.Needs.{needs}
 use mathlib.Core.Path.{sym, _∙_}
 use Prim.Native.Nat.{_%_}
 use borrow.Author.Tests.{ne-eqb}
-use Rattle.rules.specs.WakeOp.{newWord}
+use Rattle.rules.specs.WakeOp.{operate, newWord}
 use Rattle.operations.proofs.new_word.Statement.{statement}
 use Rattle.operations.proofs.new_word.Tie as tie
 
@@ -16,25 +16,25 @@ wrapping-sum-requires : tie.Need-wrapping-sum-requires
 wrapping-sum-requires c κs = search needs
 
 returns : tie.Need-returns
-unfolding newWord
+unfolding newWord operate
 returns c = rw (c .before .before .operand .ensures, sym (c .before .op-field .ensures), c .match .keys1)
 
 returns-2 : tie.Need-returns-2
-unfolding newWord
+unfolding newWord operate
 returns-2 c =
     let m = c .before in
     c .wrapping-sum .ensures ∙ rw (m .before .before .operand .ensures, sym (m .before .op-field .ensures), m .match .keys2)
 
 returns-3 : tie.Need-returns-3
-unfolding newWord
+unfolding newWord operate
 returns-3 c = rw (c .before .before .operand .ensures, sym (c .before .op-field .ensures), c .match .keys3)
 
 returns-4 : tie.Need-returns-4
-unfolding newWord
+unfolding newWord operate
 returns-4 c = rw (c .before .before .operand .ensures, sym (c .before .op-field .ensures), c .match .keys4)
 
 returns-5 : tie.Need-returns-5
-unfolding newWord
+unfolding newWord operate
 returns-5 c =
     let x = c .before .op-field .result % 8 in
     rw (c .before .before .operand .ensures, sym (c .before .op-field .ensures), ne-eqb x 0 (c .match .rest .0 .0 .0 .1), ne-eqb x 1 (c .match .rest .0 .0 .1), ne-eqb x 2 (c .match .rest .0 .1), ne-eqb x 3 (c .match .rest .1))

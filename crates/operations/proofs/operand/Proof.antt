@@ -1,18 +1,23 @@
 use borrow.Author.Needs.{needs}
-use mathlib.Core.Path.{_≡_}
-use Prim.Native.Nat.{ℕ, _*_, _%_, _^_, _<_}
+use mathlib.Core.Path.{_≡_, ap, _∙_}
+use Prim.Native.Nat.{_*_, _%_, _^_, _<_}
 use native.Mathlib.Nat.{one-mul, mod-eq-of-lt}
 use native.Mathlib.Omega.{arith}
+use lib.IntN.{ℤ}
 use lib.Pow.{pow-lt}
 use borrow.Author.Tests.{le-leb, lt-leb}
-use Rattle.tables.specs.Sizes.{wordLimit}
+use Rattle.tables.specs.Sizes.{wordBits, wordLimit}
+use Rattle.rules.specs.Signed.{modulo}
 use Rattle.rules.specs.WakeOp.{opField, opArg, operand}
+use Rattle.rules.proofs.WakeOp.{shift-of-word}
 use Rattle.operations.proofs.operand.Statement.{statement}
 use Rattle.operations.proofs.operand.Tie as tie
 
 -- a power below the word's limit
-power : (n : ℕ) → 1 * 2 ^ (n % 32) % wordLimit ≡ 2 ^ (n % 32)
-power n = let h : n % 32 < 32 = omega arith in rw (one-mul (2 ^ (n % 32))) (mod-eq-of-lt (pow-lt h))
+power : (z : ℤ) → 1 * 2 ^ (modulo wordLimit z % wordBits) % wordLimit ≡ 2 ^ modulo wordBits z
+power z =
+    let h : modulo wordLimit z % wordBits < wordBits = omega arith in
+    rw (one-mul (2 ^ (modulo wordLimit z % wordBits))) (mod-eq-of-lt (pow-lt h) ∙ ap (2 ^_) (shift-of-word z))
 
 op-field-requires : tie.Need-op-field-requires
 op-field-requires c κs = search needs

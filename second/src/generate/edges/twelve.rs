@@ -1,4 +1,4 @@
-//! P1 to P12 of document 01.
+//! P1 to P12 of document 01, P8 as request (ii) of document 02 amends it.
 
 use crate::model::{Call, Event};
 use crate::script::Script;
@@ -64,7 +64,8 @@ fn requeues(script: &mut Script) {
     }
 }
 
-/// P8 and P9: sleepers at both words show which releases took place.
+/// P8 and P9: sleepers at both words show which releases took place. P8 takes
+/// none at the second word, P9 one at each.
 fn operations(script: &mut Script) {
     for (old, val3) in [(u32::MAX, 0x1400_1000), (3, 0xB002_1003)] {
         script.fresh();
