@@ -4,10 +4,12 @@ use mathlib.Core.Path.{_≡_, refl, ap, _∙_}
 use mathlib.Core.Bool.{Bool, true, false, not, cond, _&&_, _||_}
 use mathlib.Core.List.{List, [], _∷_, _++_, map}
 use mathlib.Core.Logic.{_⊎_, _↔_}
-use Prim.Native.Nat.{ℕ, _+_, _-_, _*_, _/_, _%_, _≤_}
+use Prim.Native.Nat.{ℕ, _+_, _-_, _*_, _/_, _%_, _≤_, _<_}
 use lib.ListN.{length, take, drop, replicate}
 use lib.Dec.{eqb}
 use lib.Bits.{bitAnd, bitOr, bitXor}
+use mir.Syntax.{w32}
+use mir.Val.{toZ}
 use lib.IntN.{ℤ, pos, negℤ}
 use borrow.Author.Tests.{eqb-true, eq-eqb, le-leb}
 use Rattle.lists.specs.Lists.{filter, elem}
@@ -30,7 +32,7 @@ use Rattle.tables.specs.Sizes.{processes, threadsPerProcess, threads, noEntry, 
 use Rattle.tables.specs.Tables.{World, world, fresh, expired, threadNumber, processOf, threadOf, arrivals, tablesOk, movedTo, wordAt}
 use Rattle.rules.specs.Answers.{Row, first, reasonNumber, answerNumbers, reasonOf, lastNumber}
 use Rattle.rules.specs.Commands.{commandOf, numbered, uses}
-use Rattle.rules.specs.Signed.{negative, modulo, eqZ}
+use Rattle.rules.specs.Signed.{negative, signed, modulo, eqZ}
 use Rattle.rules.specs.WakeOp.{codeBits, argBits, opField, cmpArgField, shiftBit, undefinedOp, operate, newWord, compareBy, compares, val3Of}
 use Rattle.rules.specs.Calls.{caller, isWakeOp, oldWord}
 use Rattle.rules.specs.Events.{step}
@@ -43,6 +45,7 @@ use Rattle.rules.specs.WakeOpCases.{Compared, comparedAs, Stored, stored
 use Rattle.tables.proofs.Sound.{tables-sound}
 use Rattle.rules.proofs.Rows.{first-of, of-first, pass-clear, clear-pass}
 use Rattle.rules.proofs.Preserved.{Valid}
+use Rattle.rules.proofs.Signed as Signed′
 use Rattle.rules.proofs.Signed.{eqZ-true, eq-eqZ}
 use Rattle.rules.proofs.Numbers as Numbers′
 use Rattle.rules.proofs.Taken as Taken
@@ -148,7 +151,10 @@ reason-beside x n v = (refl, refl, refl, refl)
 pub before-numbers : (e : Event) (w : World) → (answerNumbers (stepWithoutReasons e w .answer) ≡ numbersOf e w) × (reasonOf (stepWithoutReasons e w .answer) ≡ NoReason)
 before-numbers = Numbers′.before-numbers
 
--- Signed numbers: equality by its test, which `compares-signed` speaks of.
+-- Signed numbers: a word stands for what the library reads its bits as; and equality by its test, which `compares-signed` speaks of.
+pub signed-word : (x : ℕ) → x < wordLimit → signed wordBits x ≡ toZ w32 x
+signed-word = Signed′.signed-word
+
 pub equal-exactly : (y z : ℤ) → (eqZ y z ≡ true) ↔ (y ≡ z)
 equal-exactly y z = (eqZ-true y z, eq-eqZ y z)
 

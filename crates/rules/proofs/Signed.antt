@@ -9,9 +9,11 @@ use native.Mathlib.Omega.{arith}
 use lib.Dec.{eqb, leb, ltb}
 use lib.IntN.{ℤ, pos, negsuc, _+ℤ_}
 use lib.Signed.{ltZ}
+use mir.Syntax.{w32}
+use mir.Val.{toZ}
 use borrow.Author.Tests.{leb-true, leb-false, le-leb, lt-leb, ltb-true, ltb-false, lt-ltb, le-ltb, eqb-true}
 use Rattle.lists.proofs.Tests.{cases, clash, eqb-refl, lt-same, eqb-ordered}
-use Rattle.tables.specs.Sizes.{wordLimit}
+use Rattle.tables.specs.Sizes.{wordBits, wordLimit}
 use Rattle.rules.specs.Signed.{signed, Within, modulo, turned, eqZ}
 
 eqZ-ordered : (y z : ℤ) → eqZ y z ≡ (not (ltZ y z) && not (ltZ z y))
@@ -108,6 +110,12 @@ module _ (bits : ℕ) (some : 0 < bits) where
   same-turned x y kx ky =
       eqZ-ordered (signed bits x) (signed bits y)
       ∙ rw (below-turned x y kx ky, below-turned y x ky kx) (sym (eqb-ordered (turned bits x) (turned bits y)))
+
+-- a word is read as the library reads its bits
+pub signed-word : (x : ℕ) → x < wordLimit → signed wordBits x ≡ toZ w32 x
+signed-word x k = by-sign wordBits (omega arith) x
+    (λ h. rw (signed-low wordBits (omega arith) x h, lt-ltb x (2 ^ (wordBits - 1)) h))
+    (λ h. rw (signed-high wordBits (omega arith) x h k, le-ltb x (2 ^ (wordBits - 1)) h))
 
 -- "modulo 2^32" goes through a sum
 pub sum-modulo : (y z : ℤ) → (modulo wordLimit y + modulo wordLimit z) % wordLimit ≡ modulo wordLimit (y +ℤ z)

@@ -43,7 +43,7 @@ withoutReason (Count n) = Count n
 withoutReason (Refused x) = Refused (plain (x .errno))
 withoutReason (Waiting v) = Waiting v
 
--- Before request (ii): document 01's WAKE_OP, "oparg, cmparg and comparisons are unsigned".
+-- Before request (ii): document 01's WAKE_OP, "oparg and cmparg are 0 to 4095 and comparisons are unsigned".
 
 abbrev pub operandUnsigned : ℕ → ℕ
 operandUnsigned v = cond (isPower v) (2 ^ (opArgField v % wordBits)) (opArgField v)

@@ -153,6 +153,9 @@ further =
     line (waitFor 0 address 0 ∷ Interrupt 0 0 ∷ Interrupt 0 0 ∷ Interrupt 0 1 ∷ []) (asleep ∷ number 1 ∷ number 0 ∷ number 0 ∷ []) [] (interrupted 0 ∷ []) 0
     -- the clock ends two of three, and the third keeps its deadline
     ∷ line (threeAsleep ++ (Clock 11 ∷ [])) (asleep ∷ asleep ∷ asleep ∷ number 2 ∷ []) (until 2 address 12 ∷ []) (timedOut 0 ∷ timedOut 1 ∷ []) 0
+    -- a deadline that the clock would never reach is the last time that it can
+    ∷ line (Clock 18446744073709551614 ∷ waitUntil 0 0 2 ∷ Clock 18446744073709551615 ∷ waitUntil 0 0 1 ∷ []) (number 0 ∷ asleep ∷ number 1 ∷ minus 110 ∷ []) [] (timedOut 0 ∷ []) 0
+    ∷ line (Clock 18446744073709551614 ∷ waitUntil 0 0 2 ∷ []) (number 0 ∷ asleep ∷ []) (until 0 address 18446744073709551615 ∷ []) [] 0
     -- a panel query: threads 1 and 3 asleep; nobody; a process above 7
     ∷ line (waitFor 3 address 0 ∷ waitFor 1 address 0 ∷ Query 0 ∷ Query 1 ∷ Query 8 ∷ []) (asleep ∷ asleep ∷ three 10 2 1 ∷ three 0 0 8 ∷ three 0 0 8 ∷ []) (at 3 address ∷ at 1 address ∷ []) [] 0
     -- a process or index above 7: -3, by each event that names one
