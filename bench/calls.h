@@ -66,7 +66,7 @@ static inline void run_again(tables_t *t, size_t thread, uint8_t last)
     t->deadline[thread] = 0;
 }
 
-/* No test for -12: the caller runs, so the list of sound tables has room. */
+/* The list has room: it is of sound tables, and the caller runs. */
 static inline int32_t wait(const struct call *c, uint32_t mask, uint64_t deadline)
 {
     tables_t *t = c->t;

@@ -88,7 +88,6 @@ extern "C" {
 #define VRADOMIL_EFAULT (-14)     /* an address in use is 4096 or more */
 #define VRADOMIL_EAGAIN (-11)     /* the compared word holds another number */
 #define VRADOMIL_ETIMEDOUT (-110) /* the deadline of the wait is not ahead; the thread did not sleep */
-#define VRADOMIL_ENOMEM (-12)     /* the arrival list is full; this cannot come, since the caller itself runs */
 
 /* The answer of an interrupted sleep. No function answers it; vradomil_last_answer does. */
 #define VRADOMIL_EINTR (-4)
@@ -284,8 +283,6 @@ static inline const char *vradomil_answer_text(int32_t answer)
         return "the word holds another number";
     case VRADOMIL_ETIMEDOUT:
         return "the deadline has passed";
-    case VRADOMIL_ENOMEM:
-        return "the arrival list is full";
     case VRADOMIL_EINTR:
         return "interrupted";
     default:

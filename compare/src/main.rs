@@ -13,7 +13,7 @@ mod tally;
 use std::process::ExitCode;
 
 use second::layout::{self, TABLE_BYTES, WORD_BYTES};
-use second::model::{Event, State};
+use second::model::{Event, State, THREADS};
 use second::rng::Rng;
 
 use events::Mood;
@@ -38,7 +38,9 @@ fn main() -> ExitCode {
             // A word far from all that an event names is seen late. Run it
             // again with all words compared each time, to find the event.
             let text = stretch(seed, number, true, &mut tally).err().unwrap_or(first);
-            println!("compare: seed {seed}, stretch {number}: they differ\n{text}");
+            println!(
+                "compare: seed {seed}, stretch {number}: they differ, or both are wrong\n{text}"
+            );
             return ExitCode::FAILURE;
         }
     }
@@ -104,7 +106,11 @@ impl Run<'_> {
     fn step(&mut self, event: &Event) -> Result<(), String> {
         let length = self.report_length(event);
         self.pair.set_report(&mut self.rng, length);
+        self.tally.finds(event, self.pair.state.as_ref());
         let given = self.pair.step(event)?;
+        if !tally::is_answer(given.number) {
+            return Err(format!("{event:?}: both answer {}, which is no answer", given.number));
+        }
         let applying = if given.number == -22 { reasons::applying(event) } else { 0 };
         if given.reason != reasons::lowest(applying) {
             return Err(format!("{event:?}: reason {}, not the lowest", given.reason));
@@ -189,19 +195,24 @@ impl Run<'_> {
         let mut state = State::fresh();
         for count in 0..STRETCH {
             if count % 16 == 0 {
-                let sleepers = 1 + self.rng.below(61) as usize;
+                let sleepers = tables::sleepers(&mut self.rng).clamp(1, THREADS - 1);
                 state = tables::sound(&mut self.rng, sleepers);
             }
+            let mut breaks = 0;
             let bytes = match self.rng.below(8) {
                 0..=3 => {
                     let which = self.rng.below(BREAKS as u64) as usize;
-                    self.tally.breaks |= 1 << which;
+                    breaks = 1 << which;
                     tables::break_rule(&mut self.rng, state.clone(), which)
                 }
                 4..=6 => tables::change_byte(&mut self.rng, &state),
                 _ => tables::random_bytes(&mut self.rng),
             };
             let sound = layout::decode(&bytes).is_some_and(|state| state.rules_hold());
+            // What breaks a short list may leave one of 63 as it was.
+            if !sound {
+                self.tally.breaks |= breaks;
+            }
             self.set_tables(&bytes, sound);
             self.event(events::EDGES, Some(&state))?;
         }

@@ -1,11 +1,12 @@
 //! How often each kind of event got each answer and each reason, how often each
-//! operation and comparison of WAKE_OP was seen, and which of these must have
-//! come up for a run to count.
+//! operation and comparison of WAKE_OP was seen, how often a running thread
+//! called though the list says 64 or more, and which of these must have come up
+//! for a run to count.
 
 use std::fmt::Write;
 
 use second::layout::ASLEEP;
-use second::model::{Event, PRIVATE_BIT};
+use second::model::{Event, State, PRIVATE_BIT, THREADS, THREADS_PER_PROCESS};
 
 use crate::operations::{self, Shown, COMPARISONS, OPERATIONS, WAYS};
 use crate::reasons::{self, Reasons};
@@ -95,20 +96,45 @@ impl Form {
     }
 }
 
-/// The answers that are told apart, each with its place.
-const ANSWERS: &[i64] = &[-110, -38, -22, -16, -14, -12, -11, -9, -6, -3, 0, SOME, SLEPT, NOBODY];
+/// All answers, counts above 0 as one, each with its place.
+const ANSWERS: &[i64] = &[-110, -38, -22, -16, -14, -11, -9, -6, -3, 0, SOME, SLEPT, NOBODY];
 
-fn answer_place(number: i64) -> usize {
+fn place_of(number: i64) -> Option<usize> {
     let group = match number {
         SLEPT | NOBODY | 0 => number,
         number if number > 0 => SOME,
         number => number,
     };
-    // A number that no answer has is counted last, and told as one missing.
-    ANSWERS.iter().position(|&answer| answer == group).unwrap_or(ANSWERS.len())
+    ANSWERS.iter().position(|&answer| answer == group)
 }
 
-type Counts = [u64; ANSWERS.len() + 1];
+/// Whether some event has this answer. None is -12, for which the second
+/// kernel still has its test.
+pub fn is_answer(number: i64) -> bool {
+    place_of(number).is_some()
+}
+
+fn answer_place(number: i64) -> usize {
+    place_of(number).expect("an answer that some event has")
+}
+
+/// Whether the event is a call by a thread that runs though the list says 64 or
+/// more: there only the test of the tables stands before one for -12.
+fn crowded(event: &Event, state: Option<&State>) -> bool {
+    match (event, state) {
+        (Event::Call(call), Some(state)) => {
+            let (process, index) = (call.process as usize, call.index as usize);
+            let thread = THREADS_PER_PROCESS * process + index;
+            index < THREADS_PER_PROCESS
+                && thread < THREADS
+                && !state.threads[thread].waiting
+                && state.count >= THREADS as u64
+        }
+        _ => false,
+    }
+}
+
+type Counts = [u64; ANSWERS.len()];
 
 pub struct Tally {
     counts: [[Counts; KINDS.len()]; FORMS.len()],
@@ -118,6 +144,8 @@ pub struct Tally {
     /// that was not negative, and one that was.
     compared: [[u64; WAYS]; COMPARISONS],
     operated: [[u64; 2]; 16],
+    /// How often a running thread called though the list said 64 or more.
+    crowded: [u64; KINDS.len()],
     pub sound: u64,
     pub broken: u64,
     /// A bit for each number of sleepers that tables had, and for each rule
@@ -129,10 +157,11 @@ pub struct Tally {
 impl Tally {
     pub fn new() -> Tally {
         Tally {
-            counts: [[[0; ANSWERS.len() + 1]; KINDS.len()]; FORMS.len()],
+            counts: [[[0; ANSWERS.len()]; KINDS.len()]; FORMS.len()],
             reasons: [[0; 256]; KINDS.len()],
             compared: [[0; WAYS]; COMPARISONS],
             operated: [[0; 2]; 16],
+            crowded: [0; KINDS.len()],
             sound: 0,
             broken: 0,
             sleepers: 0,
@@ -147,6 +176,11 @@ impl Tally {
         if matches!(form, Form::Exact | Form::Longer) {
             self.reasons[kind][applying as usize] += 1;
         }
+    }
+
+    /// An event that is to come, and the tables that it finds.
+    pub fn finds(&mut self, event: &Event, state: Option<&State>) {
+        self.crowded[place(event)] += crowded(event, state) as u64;
     }
 
     pub fn wake_op(&mut self, shown: Option<Shown>) {
@@ -225,6 +259,10 @@ impl Tally {
         self.missing_answers(&mut missing);
         self.missing_reasons(&mut missing);
         self.missing_operations(&mut missing);
+        let unseen = |&(kind, n): &(&Kind, u64)| n == 0 && due(kind).contains(&-16);
+        for (kind, _) in KINDS.iter().zip(self.crowded).filter(unseen) {
+            missing.push(format!("{kind} by a running thread on a list that says 64 or more"));
+        }
         for sleepers in (0..=64).filter(|&n| self.sleepers >> n & 1 == 0) {
             missing.push(format!("tables with {sleepers} sleepers"));
         }
@@ -235,7 +273,7 @@ impl Tally {
     }
 
     /// One line: events by kind, answers, forms, reasons and comparisons seen,
-    /// tables.
+    /// calls on a list that says 64 or more, tables.
     pub fn summary(&self) -> String {
         let kinds = KINDS.iter().enumerate().map(|(at, kind)| {
             let counts = self.counts.iter().flat_map(|counts| counts[at]);
@@ -255,6 +293,9 @@ impl Tally {
         let _ = write!(text, ", asked ({}), reasons seen ({})", listed(forms), listed(seen));
         let (yes, no) = (self.compared_to(true), self.compared_to(false));
         let _ = write!(text, ", comparisons seen (true {yes}, false {no})");
+        let crowded: u64 = self.crowded.iter().sum();
+        let _ =
+            write!(text, ", called by a running thread on a list that says 64 or more {crowded}");
         let _ = write!(text, ", tables sound {} broken {}", self.sound, self.broken);
         text
     }

@@ -1,12 +1,14 @@
 //! Checks of this program by itself: the cases of document 01, its sentences
-//! one by one, the reasons and the signed WAKE_OP of document 02, round trips,
-//! and random runs against the rules said once more in another way.
+//! one by one, the reasons, the signed WAKE_OP and the refusal that never comes
+//! of document 02, round trips, and random runs against the rules said once
+//! more in another way.
 
 mod calls;
 mod declared;
 mod histories;
 mod layouts;
 mod logs;
+mod never;
 mod operations;
 mod others;
 mod reasons;
@@ -90,6 +92,7 @@ pub fn run() -> Checks {
     layouts::run(&mut checks);
     scripts::run(&mut checks);
     histories::run(&mut checks);
+    never::run(&mut checks);
     checks
 }
 

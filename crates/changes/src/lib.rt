@@ -1,11 +1,12 @@
 // Changes: the changes of the tables, on their bytes where they lie. It stands on layout.
 ghost use mathlib.Core.Path.{_≡_};
+ghost use mathlib.Core.Bool.{false};
 ghost use Prim.Native.Nat.{_<_};
 ghost use lib.ListN.{length, take};
 ghost use Rattle.lists.specs.Lists.{bit};
 ghost use Rattle.tables.specs.declared.Change.the-variants.{End, MoveTo};
 ghost use Rattle.tables.specs.Sizes.{threads};
-ghost use Rattle.tables.specs.Tables.{change, withThreads, withSleep, ended, asleepAt, fallAsleep};
+ghost use Rattle.tables.specs.Tables.{threadOf, change, withThreads, withSleep, ended, asleepAt, fallAsleep};
 ghost use Rattle.tables.specs.Steps.{Numbers, changedBy, flagged, endFirst, moveFirst};
 ghost use Rattle.layout.specs.Layout.{lastByte, tablesSize, stateAt, tablesBytes};
 ghost use Rattle.layout.specs.Check.{Held};
@@ -151,9 +152,10 @@ pub fn move_first(b: &mut [u8], flags: [bool; THREADS], cap: usize, uaddr: u32) 
     parts.n as u32
 }
 
-// A running thread sleeps, and joins the end of the list, which has room.
+// A running thread sleeps, and joins the end of the list, where there is room, since it is not there yet. It is called for a caller that
+// is not waiting.
 pub fn fall_asleep(b: &mut [u8], t: usize, uaddr: u32, bitset: u32, timed: bool, deadline: u64)
-    requires { ⌜ Held (now b) × ((t < threads) × (stateAt (now b) .count < threads)) ⌝ }
+    requires { ⌜ Held (now b) × ((t < threads) × (threadOf (stateAt (now b)) t .waiting ≡ false)) ⌝ }
     ensures { λ _. ⌜ now (b .exit) ≡ tablesBytes (fallAsleep (asleepAt uaddr bitset timed deadline) t (stateAt (now (b .entry)))) ⌝ }
 {
     let due = stored_deadline(timed, deadline);

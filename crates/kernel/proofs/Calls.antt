@@ -11,8 +11,8 @@ use Rattle.rules.specs.Commands.{commandOf}
 use Rattle.rules.specs.Events.{refusals}
 use Rattle.tables.specs.Tables.{world}
 use Rattle.effects.specs.Ready.{Granted}
-use Rattle.tables.proofs.Sound.{sound-tables, room}
-use Rattle.rules.proofs.Passed.{clear-passed, caller-below, uaddr2-inside}
+use Rattle.tables.proofs.Sound.{sound-tables}
+use Rattle.rules.proofs.Passed.{clear-passed, uaddr2-inside}
 
 -- what a call that is not refused hands on
 pub granted : (c : Call) (s : State) (ws : List ℕ) → Clear (refusals (CallEvent c) (world s ws)) → Granted c s ws
@@ -24,7 +24,7 @@ granted c s ws h =
         tables = sound-tables s (p .sound);
         process = p .process;
         index = p .index;
-        room = room s (p .sound) _ (caller-below c (p .process) (p .index)) (p .runs);
+        runs = p .runs;
       };
       known = p .known;
       memory = p .memory;

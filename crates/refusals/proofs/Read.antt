@@ -21,7 +21,7 @@ use Rattle.rules.proofs.Passed.{thread-process, thread-index, uaddr-inside}
 -- The verdict on the record t and the word i that the code reads: where the thread or the address does not exist, an earlier row refuses.
 abbrev pub rowsRead : Call → State → List ℕ → ℕ → ℕ → List Row
 rowsRead c s ws t i =
-    firstRows (world s ws) ++ callRows c (threadOf s t .waiting) (s .clock) (s .count) (getD ws i 0)
+    firstRows (world s ws) ++ callRows c (threadOf s t .waiting) (s .clock) (getD ws i 0)
 
 module _ (c : Call) (s : State) (ws : List ℕ) (t i : ℕ) (thread : t ≡ threadPlace (c .process) (c .index)) (word : i ≡ wordPlace (c .process) (c .uaddr)) where
   same-rows : Same (rowsRead c s ws t i) (refusals (CallEvent c) (world s ws))
@@ -39,7 +39,6 @@ module _ (c : Call) (s : State) (ws : List ℕ) (t i : ℕ) (thread : t ≡ thre
       refl then λ h7.
       ap (λ j. differs k c (getD ws j 0)) (word-there _ _ word p (leb-false bytesPerProcess (c .uaddr) (uaddr-inside k c h6))) then λ h8.
       refl then λ h9.
-      refl then λ h10.
       tt)
 
   pub verdict-is : first (rowsRead c s ws t i) ≡ first (refusals (CallEvent c) (world s ws))

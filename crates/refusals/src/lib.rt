@@ -47,7 +47,7 @@ pub fn of_call(s: State, words: &[u32], c: Call) -> Verdict
     let thread = s.threads[t];
     let i = word_index(c.process, c.uaddr);
     let word = word_at(words, i);
-    let v = verdict_on(c, thread.waiting, s.clock, s.count, word);
+    let v = verdict_on(c, thread.waiting, s.clock, word);
     tested(s, words, v)
 }
 

@@ -1,9 +1,12 @@
--- The rules before reasons, of which the errors agree, whatever their reasons; and before signs, which agree where nothing is negative.
+-- The rules before reasons, of which the errors agree, whatever their reasons; before signs, which agree where nothing is negative; and with -12,
+-- which agree everywhere.
 use mathlib.Core.Path.{_≡_, refl, sym, ap, _∙_}
-use mathlib.Core.Bool.{true, false, not, _&&_, _||_, or-true}
+use mathlib.Core.Bool.{Bool, true, false, not, cond, _&&_, _||_, or-true}
 use Prim.Native.Nat.{_-_, _^_, _<_}
 use mathlib.Core.List.{List, [], _∷_}
-use borrow.Author.Tests.{not-true, lt-leb}
+use lib.Dec.{eqb}
+use lib.IntN.{pos, negℤ}
+use borrow.Author.Tests.{eq-eqb, not-true, lt-leb}
 use Rattle.lists.proofs.Tests.{cases, clash, and-left, and-right}
 use Rattle.rules.specs.declared.event.Command.{Command}
 use Rattle.rules.specs.declared.event.Command.the-variants.{Wait, Wake, Requeue, CmpRequeue, WakeOp, WaitBitset, WakeBitset, Unknown}
@@ -11,17 +14,24 @@ use Rattle.rules.specs.declared.event.Call.{Call}
 use Rattle.rules.specs.declared.event.Event.{Event}
 use Rattle.rules.specs.declared.event.Event.the-variants.{Call as CallEvent, Store, Clock, Interrupt, Query}
 use Rattle.rules.specs.declared.answer.Errno.{Errno}
+use Rattle.rules.specs.declared.answer.Errno.the-variants.{ENXIO, EBADF, ESRCH, EBUSY, ENOSYS, EINVAL, EFAULT, EAGAIN, ETIMEDOUT}
+use Rattle.rules.specs.declared.answer.Refusal.{Refusal}
+use Rattle.rules.specs.declared.answer.Verdict.the-variants.{Refuse}
 use Rattle.rules.specs.declared.answer.Answer.the-variants.{Refused}
-use Rattle.tables.specs.Sizes.{wordBits}
+use Rattle.tables.specs.Sizes.{threads, wordBits}
 use Rattle.tables.specs.Tables.{World, threadNumber, threadOf}
-use Rattle.rules.specs.Answers.{Row, plain, first, Outcome, outcome, judged}
+use Rattle.rules.specs.Answers.{errnoNumber, Row, plain, first, Outcome, outcome, judged}
 use Rattle.rules.specs.Commands.{commandOf}
 use Rattle.rules.specs.Signed.{negative}
 use Rattle.rules.specs.WakeOp.{argBits, isPower, opArgField, cmpArgField}
-use Rattle.rules.specs.Calls.{isWakeOp, oldWord, callRows, releasedSecond, wait, wake, requeue, wakeOp, callEffect}
+use Rattle.rules.specs.Calls.{caller, isWakeOp, oldWord, callRows, releasedSecond, wait, wake, requeue, wakeOp, callEffect}
 use Rattle.rules.specs.Events.{refusals, clockEffect, interruptEffect, effect, step}
-use Rattle.rules.specs.Before.{refusalsWithoutReasons, stepWithoutReasons, withoutReason, effectUnsigned, stepUnsigned, noneNegative}
-use Rattle.rules.proofs.Rows.{_and_}
+use Rattle.rules.specs.Before.{refusalsWithoutReasons, stepWithoutReasons, withoutReason, effectUnsigned, stepUnsigned, noneNegative, minus12, numbersWith12, OutcomeWith12, asWith12, full, judgedWith12, stepWith12}
+use Rattle.rules.specs.Claims.{Clear}
+use Rattle.tables.proofs.Sound.{room}
+use Rattle.rules.proofs.Rows.{rows-clear, rows-refused, _and_, verdicts, step-refused, step-clear}
+use Rattle.rules.proofs.Passed.{clear-passed, caller-below}
+use Rattle.rules.proofs.Refused.{refusal-of}
 use Rattle.rules.proofs.Arguments.{byErrno, arguments-one}
 use Rattle.rules.proofs.Commands.{by-command}
 use Rattle.rules.proofs.WakeOp.{newWord-plain, compares-plain}
@@ -53,7 +63,7 @@ before-by-errno (r ∷ rs) h o w = cases (r .applies) (λ e. rw e (ap (λ x. out
 
 plain-before : (e : Event) (w : World) → Plain (refusalsWithoutReasons e w)
 unfolding refusalsWithoutReasons
-plain-before (CallEvent c) w = refl and refl and refl and refl and refl and refl and refl and refl and refl and refl and refl and tt
+plain-before (CallEvent c) w = refl and refl and refl and refl and refl and refl and refl and refl and refl and refl and tt
 plain-before (Store p a v) w = refl and refl and refl and refl and refl and tt
 plain-before (Clock now) w = refl and refl and refl and tt
 plain-before (Interrupt p i) w = refl and refl and refl and tt
@@ -126,3 +136,46 @@ pub as-before-below : (c : Call) (w : World) → opArgField (c .val3) < 2 ^ (arg
 as-before-below c w p q r =
     as-before-signs (CallEvent c) w
     (rw (lt-leb _ _ p, lt-leb _ _ q, lt-leb _ _ r, or-true (isPower (c .val3))) (or-true (not (isWakeOp (commandOf (c .op))))))
+
+-- With -12.
+
+never-full : (e : Event) (w : World) → Clear (refusals e w) → full e w ≡ false
+never-full (CallEvent c) w h =
+    let g = clear-passed c w h in
+    lt-leb threads (w .state .count) (room (w .state) (g .sound) (caller c) (caller-below c (g .process) (g .index)) (g .runs))
+never-full (Store p a v) w h = refl
+never-full (Clock now) w h = refl
+never-full (Interrupt p i) w h = refl
+never-full (Query p) w h = refl
+
+pub judged-refused : (x : Refusal) (rows : List Row) (applies : Bool) (o : Outcome) (w : World) → first rows ≡ Refuse x
+    → judgedWith12 rows applies o w ≡ asWith12 (outcome (Refused x) w)
+unfolding judgedWith12
+judged-refused x rows applies o w h = rows-refused _ rows _ x h
+
+pub judged-clear : (rows : List Row) (applies : Bool) (o : Outcome) (w : World) → Clear rows
+    → judgedWith12 rows applies o w ≡ cond applies (record { answer = minus12; world = w }) (asWith12 o)
+unfolding judgedWith12
+judged-clear rows applies o w h = rows-clear _ rows _ h
+
+pub as-before-12 : (e : Event) (w : World) → asWith12 (step e w) ≡ stepWith12 e w
+unfolding stepWith12
+as-before-12 e w = verdicts e w
+    (λ x h. rw (judged-refused x (refusals e w) (full e w) (effect e w) w h, step-refused e w x h))
+    (λ h. rw (judged-clear (refusals e w) (full e w) (effect e w) w h, never-full e w h, step-clear e w h))
+
+errno-12 : (x : Errno) → eqb (errnoNumber x) 12 ≡ false
+errno-12 ENXIO = refl
+errno-12 EBADF = refl
+errno-12 ESRCH = refl
+errno-12 EBUSY = refl
+errno-12 ENOSYS = refl
+errno-12 EINVAL = refl
+errno-12 EFAULT = refl
+errno-12 EAGAIN = refl
+errno-12 ETIMEDOUT = refl
+
+pub never-12 : (e : Event) (w : World) → numbersWith12 (stepWith12 e w .answer) ≡ negℤ (pos 12) ∷ [] → ⊥
+never-12 e w h =
+    let r = refusal-of (step e w .answer) 11 (ap (λ (o : OutcomeWith12). numbersWith12 (o .answer)) (as-before-12 e w) ∙ h) in
+    clash (eqb (errnoNumber (r .0 .errno)) 12) (eq-eqb _ 12 (r .2)) (errno-12 (r .0 .errno))

@@ -5,7 +5,6 @@ use mathlib.Core.List.{[], _∷_, _++_}
 use Prim.Native.Nat.{ℕ, suc, zero, _<_}
 use native.Mathlib.Omega.{arith}
 use lib.ListN.{take, drop}
-use borrow.Author.Tests.{lt-leb}
 use Rattle.lists.specs.Lists.{filter, all}
 use Rattle.lists.proofs.Tests.{cases}
 use Rattle.lists.proofs.Filter.{filter-within, filter-all, filter-filter, all-weaken, all-append}
@@ -19,19 +18,18 @@ use Rattle.rules.specs.declared.event.Event.{Event}
 use Rattle.rules.specs.declared.event.Event.the-variants.{Call as CallEvent, Store, Clock, Interrupt, Query}
 use Rattle.rules.specs.declared.answer.Answer.the-variants.{Refused, Waiting}
 use Rattle.rules.specs.declared.answer.Refusal.{Refusal}
-use Rattle.tables.specs.Sizes.{threads, threadsPerProcess}
+use Rattle.tables.specs.Sizes.{threadsPerProcess}
 use Rattle.tables.specs.Tables.{expired, expiredSleepers, World, threadNumber, threadOf, arrivals, wordAt, endSleeps, withClock, withState, tablesOk}
 use Rattle.rules.specs.Answers.{Outcome, outcome}
 use Rattle.rules.specs.Commands.{commandOf, uses}
 use Rattle.rules.specs.WakeOp.{newWord}
-use Rattle.rules.specs.Calls.{wrongMemory, noThread, caller, secondCap, argumentRows, matches, candidates, released, moved, releasedSecond, wait, wake, requeue, wakeOp, callEffect, callRows, full}
+use Rattle.rules.specs.Calls.{wrongMemory, caller, secondCap, argumentRows, matches, candidates, released, moved, releasedSecond, wait, wake, requeue, wakeOp, callEffect, callRows}
 use Rattle.rules.specs.Events.{refusals, clockEffect, interruptEffect, bitsBelow, waitingSet, panel, effect, step}
 use Rattle.rules.specs.Claims.{Clear}
 use Rattle.rules.proofs.Commands.{by-command}
 use Rattle.rules.proofs.Rows.{Same, _then_, same-behind, same-first, clear-pass, verdicts, step-refused, step-passed}
-use Rattle.tables.proofs.Sound.{room}
 use Rattle.rules.proofs.Preserved.{Valid}
-use Rattle.rules.proofs.Passed.{Passed, clear-passed, caller-below, memory-right, sound-right, thread-process, thread-index, uaddr-inside, uaddr2-inside}
+use Rattle.rules.proofs.Passed.{Passed, clear-passed, memory-right, sound-right, thread-index, uaddr-inside, uaddr2-inside}
 use Rattle.rules.proofs.Chosen.{candidate, candidate-own, candidates-are, released-pass, moved-pass, second-pass, atFirst, atSecond}
 use Rattle.rules.proofs.View.{ownThread, viewState, view, view-state, view-with-state, own-thread, view-arrivals, view-own, view-clock, view-word, view-end, view-move, view-sleep-own, view-with-clock, view-write-own, view-valid}
 
@@ -168,18 +166,7 @@ call-rows c w g =
     refl then λ h7.
     (rw (view-word p w (c .uaddr) (uaddr-inside (commandOf (c .op)) c h6))) then λ h8.
     (rw (view-state p w, view-clock p (w .state))) then λ h9.
-    room-too h3 h4 then λ h10.
     tt)
-  where
-    room-too : noThread (c .process) (c .index) ≡ false → threadOf (w .state) (caller c) .waiting ≡ false
-        → full (w .state .count) ≡ full (view (c .process) w .state .count)
-    room-too h3 h4 =
-        let p = c .process in
-        let low = caller-below c (thread-process p (c .index) h3) (thread-index p (c .index) h3) in
-        let off = sym (same-waiting p w g (c .index) (thread-index p (c .index) h3)) ∙ h4 in
-        both-false
-        (lt-leb threads (w .state .count) (room (w .state) (g .sound) (caller c) low h4))
-        (lt-leb threads (view p w .state .count) (room (view p w .state) (view-valid p w g .sound) (caller c) low off))
 
 -- the panel
 bitsBelow-ext : (n : ℕ) (f h : ℕ → Bool) → ((i : ℕ) → i < n → f i ≡ h i) → bitsBelow n f ≡ bitsBelow n h

@@ -18,7 +18,7 @@ use Rattle.rules.specs.Calls.{wrongMemory, noProcess, noThread, caller, 
 use Rattle.rules.specs.Events.{refusals}
 use Rattle.rules.specs.Claims.{Clear}
 use Rattle.rules.proofs.Rows.{clear-left, clear-right, clear-both, _and_}
-use Rattle.tables.proofs.Sound.{Sound, tables-sound, sound-tables, room}
+use Rattle.tables.proofs.Sound.{Sound, tables-sound, sound-tables}
 
 pub record Passed (k : Command) (c : Call) (w : World) : Type 0 where
   pub memory : length (w .words) ≡ memoryWords
@@ -77,7 +77,6 @@ clear-passed c w h =
 pub caller-below : (c : Call) → c .process < processes → c .index < threadsPerProcess → caller c < threads
 caller-below c p i = omega arith
 
--- The last row, -12, adds nothing: the caller runs, so the list has room.
 pub passed-clear : (c : Call) (w : World) → Passed (commandOf (c .op)) c w → Clear (refusals (CallEvent c) w)
 unfolding refusals callRows notImplemented
 passed-clear c w g =
@@ -91,7 +90,6 @@ passed-clear c w g =
     and g .defined
     and g .equal
     and g .ahead
-    and lt-leb threads (w .state .count) (room (w .state) (g .sound) (caller c) (caller-below c (g .process) (g .index)) (g .runs))
     and tt)
 
 -- what the argument rules tell

@@ -11,7 +11,7 @@ use lib.Bits.{bitAnd, bitOr, bitXor}
 use mir.Syntax.{w32}
 use mir.Val.{toZ}
 use lib.IntN.{ℤ, pos, negℤ}
-use borrow.Author.Tests.{eqb-true, eq-eqb, le-leb}
+use borrow.Author.Tests.{eqb-true, eq-eqb, leb-true, le-leb}
 use Rattle.lists.specs.Lists.{filter, elem}
 use Rattle.lists.proofs.Filter.{getD-replicated}
 use Rattle.lists.proofs.Tests.{eqb-refl, and-intro, and-left, and-right}
@@ -27,17 +27,18 @@ use Rattle.rules.specs.declared.answer.Reason.the-variants.{NoReason, Fi
 use Rattle.rules.specs.declared.answer.Refusal.{Refusal}
 use Rattle.rules.specs.declared.answer.Panel.{Panel}
 use Rattle.rules.specs.declared.answer.Verdict.the-variants.{Refuse, Pass}
+use Rattle.rules.specs.declared.answer.Answer.{Answer}
 use Rattle.rules.specs.declared.answer.Answer.the-variants.{Asleep, Count, Refused, Waiting}
 use Rattle.tables.specs.Sizes.{processes, threadsPerProcess, threads, noEntry, wordsPerProcess, bytesPerProcess, memoryWords, maxCap, wordBits, wordLimit}
 use Rattle.tables.specs.Tables.{World, world, fresh, expired, threadNumber, processOf, threadOf, arrivals, tablesOk, movedTo, wordAt}
-use Rattle.rules.specs.Answers.{Row, first, reasonNumber, answerNumbers, reasonOf, lastNumber}
+use Rattle.rules.specs.Answers.{Row, first, reasonNumber, answerNumbers, reasonOf, lastNumber, Outcome, outcome}
 use Rattle.rules.specs.Commands.{commandOf, numbered, uses}
 use Rattle.rules.specs.Signed.{negative, signed, modulo, eqZ}
 use Rattle.rules.specs.WakeOp.{codeBits, argBits, opField, cmpArgField, shiftBit, undefinedOp, operate, newWord, compareBy, compares, val3Of}
 use Rattle.rules.specs.Calls.{caller, isWakeOp, oldWord}
-use Rattle.rules.specs.Events.{step}
+use Rattle.rules.specs.Events.{refusals, effect, step}
 use Rattle.rules.specs.Numbers.{numbersOf}
-use Rattle.rules.specs.Before.{stepWithoutReasons, newWordUnsigned, comparesUnsigned, stepUnsigned, noneNegative}
+use Rattle.rules.specs.Before.{stepWithoutReasons, newWordUnsigned, comparesUnsigned, stepUnsigned, noneNegative, other, minus12, numbersWith12, asWith12, full, judgedWith12, stepWith12}
 use Rattle.rules.specs.History.{start, final, answers, isClock, belongs, keptFor, entriesOf, answersTo}
 use Rattle.rules.specs.Claims.{FirstOf, Clear, Sleeps, Took, Takes, wokenBy, movedBy, woke, shifted, countsMoves, SameSleepers, NamedAlike, before, after, asleepThere, Enters, sleptThrough, Since, Alike}
 use Rattle.rules.specs.Cases.{wakeOpAt, asleepAtMinusOne, Case, sleepers, endedFrom, given, Reasoned, reasonedAs, Share, mixed, shareOf, Unsound, each, unsoundGiven}
@@ -48,6 +49,7 @@ use Rattle.rules.proofs.Preserved.{Valid}
 use Rattle.rules.proofs.Signed as Signed′
 use Rattle.rules.proofs.Signed.{eqZ-true, eq-eqZ}
 use Rattle.rules.proofs.Numbers as Numbers′
+use Rattle.rules.proofs.Before as Before′
 use Rattle.rules.proofs.Taken as Taken
 use Rattle.rules.proofs.Fate.{fate}
 use Rattle.rules.proofs.Determined as Determined
@@ -147,7 +149,7 @@ pub reason-beside : (x : Refusal) (n : ℕ) (v : Panel)
     → (reasonOf (Refused x) ≡ x .reason) × (reasonOf Asleep ≡ NoReason) × (reasonOf (Count n) ≡ NoReason) × (reasonOf (Waiting v) ≡ NoReason)
 reason-beside x n v = (refl, refl, refl, refl)
 
--- The rules before reasons answered by document 01's numbers, and gave no reason.
+-- The rules before reasons answered by the same numbers, and gave no reason.
 pub before-numbers : (e : Event) (w : World) → (answerNumbers (stepWithoutReasons e w .answer) ≡ numbersOf e w) × (reasonOf (stepWithoutReasons e w .answer) ≡ NoReason)
 before-numbers = Numbers′.before-numbers
 
@@ -197,6 +199,36 @@ none-negative-else p a v now i c w = (refl, refl, refl, refl, λ e. rw e)
 pub none-negative-power : (c : Call) (w : World) → isWakeOp (commandOf (c .op)) ≡ true → shiftBit ≤ opField (c .val3)
     → noneNegative (CallEvent c) w ≡ (not (negative argBits (cmpArgField (c .val3))) && not (negative wordBits (oldWord c w)))
 none-negative-power c w e h = rw (e, le-leb shiftBit (opField (c .val3)) h)
+
+-- The rules with -12, which `never-12` and `as-before-12` speak of: a row above that applies answers, then the row for -12, then the event does what it does;
+pub row-of-12 : (x : Refusal) (rows : List Row) (applies : Bool) (o : Outcome) (w : World)
+    → (FirstOf x rows → judgedWith12 rows applies o w ≡ asWith12 (outcome (Refused x) w))
+    × (Clear rows → judgedWith12 rows true o w ≡ record { answer = minus12; world = w })
+    × (Clear rows → judgedWith12 rows false o w ≡ asWith12 o)
+row-of-12 x rows applies o w = (
+  (λ h. Before′.judged-refused x rows applies o w (of-first x rows h)),
+  Before′.judged-clear rows true o w,
+  Before′.judged-clear rows false o w,
+)
+
+-- their rows are those that hold now and, of a call alone, "the arrival list already holds 64";
+pub rows-with-12 : (e : Event) (w : World) → stepWith12 e w ≡ judgedWith12 (refusals e w) (full e w) (effect e w) w
+unfolding stepWith12
+rows-with-12 e w = refl
+
+pub full-exactly : (c : Call) (w : World) → (full (CallEvent c) w ≡ true) ↔ (64 ≤ w .state .count)
+full-exactly c w = (leb-true 64 (w .state .count), le-leb 64 (w .state .count))
+
+pub none-else-full : (p i a v now : ℕ) (w : World)
+    → (full (Store p a v) w ≡ false) × (full (Clock now) w ≡ false) × (full (Interrupt p i) w ≡ false) × (full (Query p) w ≡ false)
+none-else-full p i a v now w = (refl, refl, refl, refl)
+
+-- their numbers; and an outcome among them is the whole of it, with the reason.
+pub numbered-12 : (a : Answer) → (numbersWith12 (other a) ≡ answerNumbers a) × (numbersWith12 minus12 ≡ negℤ (pos 12) ∷ [])
+numbered-12 a = (refl, refl)
+
+pub whole-with-12 : (o : Outcome) → asWith12 o ≡ record { answer = other (o .answer); world = o .world }
+whole-with-12 o = refl
 
 -- Wakes and requeues: what was taken fixes every record and the order of the list afterwards,
 pub took-fixes : {a : LastAnswer} {out on : List ℕ} {target : ℕ} {s u v : State} → Took a out on target s u → Took a out on target s v

@@ -14,7 +14,7 @@ use Rattle.rules.specs.declared.event.Call.{Call}
 use Rattle.rules.specs.declared.event.Event.{Event}
 use Rattle.rules.specs.declared.event.Event.the-variants.{Call as CallEvent, Store, Clock, Interrupt, Query}
 use Rattle.rules.specs.declared.answer.Errno.{Errno}
-use Rattle.rules.specs.declared.answer.Errno.the-variants.{ENXIO, EBADF, ESRCH, EBUSY, ENOSYS, EINVAL, EFAULT, EAGAIN, ETIMEDOUT, ENOMEM}
+use Rattle.rules.specs.declared.answer.Errno.the-variants.{ENXIO, EBADF, ESRCH, EBUSY, ENOSYS, EINVAL, EFAULT, EAGAIN, ETIMEDOUT}
 use Rattle.rules.specs.declared.answer.Reason.{Reason}
 use Rattle.rules.specs.declared.answer.Reason.the-variants.{NoReason, FirstCap, SecondCap, MaskZero, UaddrUnaligned, Uaddr2Unaligned, SameAddress, ClockBack}
 use Rattle.rules.specs.declared.answer.Refusal.{Refusal}
@@ -28,8 +28,8 @@ use Rattle.rules.specs.Commands.{commandOf, uses}
 use Rattle.rules.specs.Calls.{argumentRows, callRows}
 use Rattle.rules.specs.Events.{refusals, effect, step}
 use Rattle.rules.specs.Claims.{Fault, firstCap, secondCap, maskZero, uaddrUnaligned, addressUnaligned, uaddr2Unaligned, sameAddress, clockBack}
-use Rattle.rules.proofs.Rows.{not-pass, _and_, verdicts, step-refused, step-clear}
-use Rattle.rules.proofs.Refused.{granted, refused-row}
+use Rattle.rules.proofs.Rows.{not-pass, rows-refused, _and_, verdicts, step-refused, step-clear}
+use Rattle.rules.proofs.Refused.{granted, refused-row, refusal-of}
 
 -- a row of the table
 data In : Row → List Row → Type 0 where
@@ -74,7 +74,6 @@ isInvalid EINVAL = true
 isInvalid EFAULT = false
 isInvalid EAGAIN = false
 isInvalid ETIMEDOUT = false
-isInvalid ENOMEM = false
 
 abbrev invalid : List Row → List Row
 invalid rs = filter (λ r. isInvalid (r .refusal .errno)) rs
@@ -169,10 +168,6 @@ refuses22 (Count n) = false
 refuses22 (Refused x) = isInvalid (x .errno)
 refuses22 (Waiting v) = false
 
-abbrev is22 : List ℤ → Bool
-is22 [] = false
-is22 (z ∷ l) = isMinus22 z
-
 pub errno-22 : (x : Errno) → isMinus22 (negℤ (pos (errnoNumber x))) ≡ isInvalid x
 errno-22 ENXIO = refl
 errno-22 EBADF = refl
@@ -183,17 +178,15 @@ errno-22 EINVAL = refl
 errno-22 EFAULT = refl
 errno-22 EAGAIN = refl
 errno-22 ETIMEDOUT = refl
-errno-22 ENOMEM = refl
 
 only-22 : (z : ℤ) → isMinus22 z ≡ true → z ∷ [] ≡ negℤ (pos 22) ∷ []
 only-22 (pos n) h = clash true refl (sym h)
 only-22 (negsuc n) h = ap (λ k. negsuc k ∷ []) (eqb-true n 21 h)
 
 numbers-22 : (a : Answer) → answerNumbers a ≡ negℤ (pos 22) ∷ [] → refuses22 a ≡ true
-numbers-22 Asleep h = ap is22 h
-numbers-22 (Count n) h = ap is22 h
-numbers-22 (Refused x) h = sym (errno-22 (x .errno)) ∙ ap is22 h
-numbers-22 (Waiting v) h = ap is22 h
+numbers-22 a h =
+    let r = refusal-of a 21 h in
+    rw (r .1) (sym (errno-22 (r .0 .errno)) ∙ ap (λ n. isMinus22 (negℤ (pos n))) (r .2))
 
 minus-22 : (a : Answer) → refuses22 a ≡ true → answerNumbers a ≡ negℤ (pos 22) ∷ []
 minus-22 Asleep h = clash true refl (sym h)
@@ -245,18 +238,12 @@ reason-told e w wrong h =
     (λ on. rw on (sym (h on)))
     (λ off. rw off (sym (reason-none e w .1 (λ n. clash (refuses22 a) (numbers-22 a n) off))))
 
-among-first : (rs : List Row) (x : Refusal) → first rs ≡ Refuse x → reasonAmong rs ≡ x .reason
-among-first [] x h = not-pass (sym h)
-among-first (r ∷ rs) x h = cases (r .applies)
-    (λ e. let same : r .refusal ≡ x = cc in rw (e, same))
-    (λ e. rw e (among-first rs x (cc)))
-
 pub call-reason : (c : Call) (w : World) → refuses22 (step (CallEvent c) w .answer) ≡ true
     → reasonOf (step (CallEvent c) w .answer) ≡ reasonAmong (argumentRows (commandOf (c .op)) c)
 unfolding refusals callRows argumentRows
 call-reason c w h =
     let by = refused-22 (CallEvent c) w (step (CallEvent c) w .answer) refl h in
-    by .2 ∙ sym (among-first (argumentRows (commandOf (c .op)) c) (by .0) (by .1))
+    by .2 ∙ sym (rows-refused (λ x. x .reason) (argumentRows (commandOf (c .op)) c) NoReason (by .0) (by .1))
 
 one-reason : (e : Event) (w : World) (r : Reason) → Each (λ q. q ≡ r) (invalid (refusals e w)) → refuses22 (step e w .answer) ≡ true
     → reasonOf (step e w .answer) ≡ r

@@ -1,8 +1,11 @@
--- Demand 1: an event is answered a refusal exactly when a row applies.
-use mathlib.Core.Path.{_≡_, refl, ap, _∙_}
+-- Demand 1: an event is answered a refusal exactly when a row applies; and an answer below 0 is a refusal.
+use mathlib.Core.Path.{_≡_, refl, sym, ap, _∙_}
 use mathlib.Core.Bool.{true, false}
 use mathlib.Core.Logic.{_⊎_, inl, inr}
-use Prim.Native.Nat.{ℕ}
+use mathlib.Core.List.{List, [], _∷_}
+use Prim.Native.Nat.{ℕ, suc, zero}
+use native.Mathlib.Omega.{arith}
+use lib.IntN.{ℤ, pos, negsuc, negℤ}
 use Rattle.lists.proofs.Tests.{cases, clash, by-cases}
 use Rattle.rules.specs.declared.event.Command.{Command}
 use Rattle.rules.specs.declared.event.Call.{Call}
@@ -10,9 +13,10 @@ use Rattle.rules.specs.declared.event.Event.{Event}
 use Rattle.rules.specs.declared.event.Event.the-variants.{Call as CallEvent, Store, Clock, Interrupt, Query}
 use Rattle.rules.specs.declared.answer.Refusal.{Refusal}
 use Rattle.rules.specs.declared.answer.Verdict.the-variants.{Refuse}
-use Rattle.rules.specs.declared.answer.Answer.the-variants.{Asleep, Count, Refused}
+use Rattle.rules.specs.declared.answer.Answer.{Answer}
+use Rattle.rules.specs.declared.answer.Answer.the-variants.{Asleep, Count, Refused, Waiting}
 use Rattle.tables.specs.Tables.{World, threadNumber, threadOf}
-use Rattle.rules.specs.Answers.{first, isRefused}
+use Rattle.rules.specs.Answers.{errnoNumber, answerNumbers, first, isRefused}
 use Rattle.rules.specs.Commands.{commandOf, isUnknown}
 use Rattle.rules.specs.Calls.{wait, wake, requeue, wakeOp, callEffect}
 use Rattle.rules.specs.Events.{refusals, clockEffect, interruptEffect, effect, step}
@@ -44,3 +48,22 @@ pub refused-row : (e : Event) (w : World) (x : Refusal) → step e w .answer ≡
 refused-row e w x h = verdicts e w
     (λ y r. let same : y ≡ x = cc (step-refused e w y r) in r ∙ ap Refuse same)
     (λ r. clash (isRefused (step e w .answer)) (cc) (cc (step-clear e w r, granted e w r)))
+
+-- an answer that is a number below 0 is a refusal, whose error has that number
+abbrev belowZero : List ℤ → ℕ
+belowZero [] = 0
+belowZero (pos n ∷ l) = 0
+belowZero (negsuc n ∷ l) = suc n
+
+belowZero-neg : (n : ℕ) → belowZero (negℤ (pos n) ∷ []) ≡ n
+belowZero-neg zero = refl
+belowZero-neg (suc n) = refl
+
+not-below : {P : Type 0} {n : ℕ} → 0 ≡ suc n → P
+not-below h = absurd (omega arith)
+
+pub refusal-of : (a : Answer) (n : ℕ) → answerNumbers a ≡ negℤ (pos (suc n)) ∷ [] → (x : Refusal) × (a ≡ Refused x) × (errnoNumber (x .errno) ≡ suc n)
+refusal-of Asleep n h = not-below (ap belowZero h)
+refusal-of (Count k) n h = not-below (ap belowZero h)
+refusal-of (Refused x) n h = (x, refl, sym (belowZero-neg (errnoNumber (x .errno))) ∙ ap belowZero h)
+refusal-of (Waiting v) n h = not-below (ap belowZero h)

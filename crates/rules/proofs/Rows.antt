@@ -70,6 +70,12 @@ module _ {ℓ} {A : Type ℓ} (f : Refusal → A) where
   rows-clear [] below h = refl
   rows-clear (r ∷ rs) below h = rw (h .0) (rows-clear rs below (h .1))
 
+  pub rows-refused : (rs : List Row) (below : A) (x : Refusal) → first rs ≡ Refuse x → byRows f rs below ≡ f x
+  rows-refused [] below x h = not-pass (sym h)
+  rows-refused (r ∷ rs) below x h = cases (r .applies)
+      (λ e. let same : r .refusal ≡ x = cc in rw (e, same))
+      (λ e. rw e (rows-refused rs below x (cc)))
+
 -- the rows of an event that is no panel query
 pub all-rows : (e : Event) (w : World) → isQuery e ≡ false → refusals e w ≡ firstRows w ++ ownRows e w
 unfolding refusals

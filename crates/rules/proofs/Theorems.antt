@@ -22,7 +22,7 @@ use Rattle.rules.specs.declared.answer.Reason.{Reason}
 use Rattle.rules.specs.declared.answer.Reason.the-variants.{NoReason}
 use Rattle.rules.specs.declared.answer.Refusal.{Refusal}
 use Rattle.rules.specs.declared.answer.Answer.the-variants.{Asleep, Count, Refused}
-use Rattle.tables.specs.Sizes.{threads, bytesPerProcess, memoryWords, wordBits, wordLimit}
+use Rattle.tables.specs.Sizes.{processes, threadsPerProcess, threads, bytesPerProcess, memoryWords, wordBits, wordLimit}
 use Rattle.tables.specs.Tables.{World, threadNumber, processOf, wordAt, ended, threadOf, arrivals, sleepsAt, queue, expired, expiredSleepers, tablesOk, withState, fallAsleep}
 use Rattle.rules.specs.Answers.{asleepNumber, reasonNumber, answerNumbers, reasonOf, outcome}
 use Rattle.rules.specs.Commands.{commandOf}
@@ -31,14 +31,14 @@ use Rattle.rules.specs.WakeOp.{codeBits, argBits, opField, cmpField, opA
 use Rattle.rules.specs.Calls.{caller, secondCap, matches, candidates, released, moved, releasedSecond}
 use Rattle.rules.specs.Events.{refusals, effect, step}
 use Rattle.rules.specs.Numbers.{numbersOf}
-use Rattle.rules.specs.Before.{stepWithoutReasons, withoutReason, stepUnsigned, noneNegative}
+use Rattle.rules.specs.Before.{stepWithoutReasons, withoutReason, stepUnsigned, noneNegative, numbersWith12, asWith12, stepWith12}
 use Rattle.rules.specs.History.{start, final, keptFor, answersTo}
 use Rattle.rules.specs.Claims.{FirstOf, Clear, Fault, Sleeps, sleepsBy, Took, Takes, wokenCount, shiftedCount, countsMoves, NamedAlike, Fate, asleepThere, sleptThrough, Since, Alike}
 use Rattle.rules.proofs.Rows.{first-of, of-first, verdicts, step-refused, step-clear}
 use Rattle.rules.specs.Cases.{twelve, further, given, reasoned, reasonedAs, shares, shareOf, unsounds, unsoundGiven}
 use Rattle.rules.specs.WakeOpCases.{comparisons, comparedAs, operations, storedAs, calls, calledAs}
 use Rattle.rules.proofs.Cases as Cases
-use Rattle.tables.proofs.Sound.{tables-sound, sound-tables, none-overdue}
+use Rattle.tables.proofs.Sound.{tables-sound, sound-tables, room, none-overdue}
 use Rattle.rules.proofs.Refused.{refused-row}
 use Rattle.rules.proofs.Numbers.{by-number}
 use Rattle.rules.proofs.Preserved.{step-valid, final-valid, start-valid}
@@ -144,6 +144,22 @@ as-before-signs = Before.as-before-signs
 pub as-before-below : (c : Call) (w : World) → opArgField (c .val3) < 2048 → cmpArgField (c .val3) < 2048 → wordAt w (c .process) (c .uaddr2) < 2147483648
     → step (CallEvent c) w ≡ stepUnsigned (CallEvent c) w
 as-before-below = Before.as-before-below
+
+-- Request (iii), the refusal nobody can provoke.
+
+-- "a caller that passes -16 is running, so with sound tables at most 63 threads are on the list": one fewer than there are threads.
+pub caller-leaves-room : (p i : ℕ) (s : State) → tablesOk s ≡ true → p < processes → i < threadsPerProcess → threadOf s (threadNumber p i) .waiting ≡ false
+    → s .count < threads
+caller-leaves-room p i s sound low index runs = room s (tables-sound s sound) (threadNumber p i) (omega arith) runs
+
+-- "Show that it never comes": by the rules with document 01's row for -12, no event is answered -12, whatever the tables and words.
+pub never-12 : (e : Event) (w : World) → numbersWith12 (stepWith12 e w .answer) ≡ negℤ (pos 12) ∷ [] → ⊥
+never-12 = Before.never-12
+
+-- "No other answer may change for any input, and the auditor wants that said as a comparison with the rules before": every event is answered and
+-- leaves what those rules gave, for any tables and words, sound or not.
+pub as-before-12 : (e : Event) (w : World) → asWith12 (step e w) ≡ stepWith12 e w
+as-before-12 = Before.as-before-12
 
 -- Demand 2, waits.
 

@@ -7,7 +7,7 @@ use lib.IntN.{ℤ, pos, negsuc, negℤ}
 use Rattle.tables.specs.declared.LastAnswer.{LastAnswer}
 use Rattle.tables.specs.declared.LastAnswer.the-variants.{NoneYet, Woken, TimedOut, Interrupted}
 use Rattle.rules.specs.declared.answer.Errno.{Errno}
-use Rattle.rules.specs.declared.answer.Errno.the-variants.{ENXIO, EBADF, ESRCH, EBUSY, ENOSYS, EINVAL, EFAULT, EAGAIN, ETIMEDOUT, ENOMEM}
+use Rattle.rules.specs.declared.answer.Errno.the-variants.{ENXIO, EBADF, ESRCH, EBUSY, ENOSYS, EINVAL, EFAULT, EAGAIN, ETIMEDOUT}
 use Rattle.rules.specs.declared.answer.Reason.{Reason}
 use Rattle.rules.specs.declared.answer.Reason.the-variants.{NoReason, FirstCap, SecondCap, MaskZero, UaddrUnaligned, Uaddr2Unaligned, SameAddress, ClockBack}
 use Rattle.rules.specs.declared.answer.Refusal.{Refusal}
@@ -29,7 +29,6 @@ errnoNumber EINVAL = 22
 errnoNumber EFAULT = 14
 errnoNumber EAGAIN = 11
 errnoNumber ETIMEDOUT = 110
-errnoNumber ENOMEM = 12
 
 -- "1 first cap, 2 second cap, 3 mask zero, 4 uaddr not aligned (also a store's address), 5 uaddr2 not aligned, 6 same address twice,
 -- 7 clock went back; 0 with every other answer"

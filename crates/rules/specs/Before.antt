@@ -1,9 +1,10 @@
 -- The rules before each request that changed them: those that hold now, with the one thing that the request changed as it was. They stand here
 -- for the comparisons with the rules that hold now (proofs/Theorems.antt), and nothing else uses them.
-use mathlib.Core.Bool.{Bool, true, not, cond, _&&_, _||_}
+use mathlib.Core.Bool.{Bool, true, false, not, cond, _&&_, _||_}
 use mathlib.Core.List.{List, [], _∷_, _++_}
 use Prim.Native.Nat.{ℕ, _%_, _^_}
-use lib.Dec.{eqb, ltb}
+use lib.Dec.{eqb, leb, ltb}
+use lib.IntN.{ℤ, pos, negℤ}
 use Rattle.rules.specs.declared.event.Command.{Command}
 use Rattle.rules.specs.declared.event.Call.{Call}
 use Rattle.rules.specs.declared.event.Event.{Event}
@@ -11,9 +12,9 @@ use Rattle.rules.specs.declared.event.Event.the-variants.{Call as CallEv
 use Rattle.rules.specs.declared.answer.Errno.the-variants.{ESRCH, EINVAL, EFAULT}
 use Rattle.rules.specs.declared.answer.Answer.{Answer}
 use Rattle.rules.specs.declared.answer.Answer.the-variants.{Asleep, Count, Refused, Waiting}
-use Rattle.tables.specs.Sizes.{wordBits}
+use Rattle.tables.specs.Sizes.{threads, wordBits}
 use Rattle.tables.specs.Tables.{World, threadOf, wordAt, aligned, outside}
-use Rattle.rules.specs.Answers.{Row, plain, _when_, first, Outcome, judged}
+use Rattle.rules.specs.Answers.{answerNumbers, Row, plain, _when_, byRows, first, Outcome, outcome, judged}
 use Rattle.rules.specs.Commands.{commandOf}
 use Rattle.rules.specs.Signed.{negative}
 use Rattle.rules.specs.WakeOp.{argBits, cmpField, opArgField, cmpArgField, isPower, opCode, operate, compareBy}
@@ -24,7 +25,7 @@ use Rattle.rules.specs.Events.{isQuery, refusals, effect}
 
 abbrev pub ownRowsWithoutReasons : Event → World → List Row
 ownRowsWithoutReasons (CallEvent c) w =
-    tableWith (EINVAL when badArgument (commandOf (c .op)) c ∷ []) c (threadOf (w .state) (caller c) .waiting) (w .state .clock) (w .state .count) (wordAt w (c .process) (c .uaddr))
+    tableWith (EINVAL when badArgument (commandOf (c .op)) c ∷ []) c (threadOf (w .state) (caller c) .waiting) (w .state .clock) (wordAt w (c .process) (c .uaddr))
 ownRowsWithoutReasons (Store p a v) w = ESRCH when noProcess p ∷ EINVAL when not (aligned a) ∷ EFAULT when outside a ∷ []
 ownRowsWithoutReasons (Clock now) w = EINVAL when ltb now (w .state .clock) ∷ []
 ownRowsWithoutReasons (Interrupt p i) w = ESRCH when noThread p i ∷ []
@@ -79,3 +80,38 @@ noneNegative (Store p a v) w = true
 noneNegative (Clock now) w = true
 noneNegative (Interrupt p i) w = true
 noneNegative (Query p) w = true
+
+-- Before request (iii): a call had one more row, the last of document 01's table, answered -12. No refusal has that error now, so what was answered
+-- then is an answer that there still is, or -12.
+
+pub data AnswerWith12 : Type 0 where
+  other : Answer → AnswerWith12
+  minus12 : AnswerWith12
+
+abbrev pub numbersWith12 : AnswerWith12 → List ℤ
+numbersWith12 (other a) = answerNumbers a
+numbersWith12 minus12 = negℤ (pos 12) ∷ []
+
+pub record OutcomeWith12 : Type 0 where
+  pub answer : AnswerWith12
+  pub world : World
+
+-- an outcome by the rules that hold now, as one of then
+abbrev pub asWith12 : Outcome → OutcomeWith12
+asWith12 o = record { answer = other (o .answer); world = o .world }
+
+-- "the arrival list already holds 64", asked of calls alone
+abbrev pub full : Event → World → Bool
+full (CallEvent c) w = leb threads (w .state .count)
+full (Store p a v) w = false
+full (Clock now) w = false
+full (Interrupt p i) w = false
+full (Query p) w = false
+
+-- A table of answers with the row for -12 below its rows: the first that applies answers, and "leaves words, records, list and clock unchanged".
+unfoldable pub judgedWith12 : List Row → Bool → Outcome → World → OutcomeWith12
+judgedWith12 rows applies o w =
+    byRows (λ x. asWith12 (outcome (Refused x) w)) rows (cond applies (record { answer = minus12; world = w }) (asWith12 o))
+
+unfoldable pub stepWith12 : Event → World → OutcomeWith12
+stepWith12 e w = judgedWith12 (refusals e w) (full e w) (effect e w) w

@@ -11,10 +11,10 @@ use Rattle.tables.specs.declared.LastAnswer.the-variants.{Woken}
 use Rattle.rules.specs.declared.event.Command.{Command}
 use Rattle.rules.specs.declared.event.Command.the-variants.{Wait, Wake, Requeue, CmpRequeue, WakeOp, WaitBitset, WakeBitset, Unknown}
 use Rattle.rules.specs.declared.event.Call.{Call}
-use Rattle.rules.specs.declared.answer.Errno.the-variants.{ENXIO, EBADF, ESRCH, EBUSY, ENOSYS, EINVAL, EFAULT, EAGAIN, ETIMEDOUT, ENOMEM}
+use Rattle.rules.specs.declared.answer.Errno.the-variants.{ENXIO, EBADF, ESRCH, EBUSY, ENOSYS, EINVAL, EFAULT, EAGAIN, ETIMEDOUT}
 use Rattle.rules.specs.declared.answer.Reason.the-variants.{FirstCap, SecondCap, MaskZero, UaddrUnaligned, Uaddr2Unaligned, SameAddress}
 use Rattle.rules.specs.declared.answer.Answer.the-variants.{Asleep, Count, Refused}
-use Rattle.tables.specs.Sizes.{processes, threadsPerProcess, threads, memoryWords, wordLimit, timeLimit, matchAny, maxCap}
+use Rattle.tables.specs.Sizes.{processes, threadsPerProcess, memoryWords, wordLimit, timeLimit, matchAny, maxCap}
 use Rattle.tables.specs.Tables.{World, sharesBit, threadNumber, threadOf, wordAt, queue, aligned, outside, tablesOk, endSleeps, moveSleeps, fallAsleep, asleepAt, writeWord, withState}
 use Rattle.rules.specs.Answers.{Row, _because_, plain, _given_, _when_, Outcome, outcome}
 use Rattle.rules.specs.Commands.{commandOf, notImplemented, uses}
@@ -97,14 +97,10 @@ deadlineOf k c now = cond (uses k .mask) (c .timeout) (min (now + c .timeout) (t
 abbrev pub late : Command → Call → ℕ → Bool
 late k c now = uses k .deadline && timeoutGiven c && leb (deadlineOf k c now) now
 
--- "the arrival list already holds 64"
-abbrev pub full : ℕ → Bool
-full count = leb threads count
-
 -- The table of answers from its third row on, with its rows for -22, by what a call reads of the tables and words: whether the caller
--- waits, the clock, the list's count and the word at uaddr.
-abbrev pub tableWith : List Row → Call → Bool → ℕ → ℕ → ℕ → List Row
-tableWith arguments c waits now count word =
+-- waits, the clock and the word at uaddr.
+abbrev pub tableWith : List Row → Call → Bool → ℕ → ℕ → List Row
+tableWith arguments c waits now word =
     let k = commandOf (c .op) in
     ESRCH when noThread (c .process) (c .index)
     ∷ EBUSY when waits
@@ -115,11 +111,10 @@ tableWith arguments c waits now count word =
     ∷ ENOSYS when (isWakeOp k && undefinedOp (c .val3))
     ∷ EAGAIN when differs k c word
     ∷ ETIMEDOUT when late k c now
-    ∷ ENOMEM when full count
     ∷ []))
 
-unfoldable pub callRows : Call → Bool → ℕ → ℕ → ℕ → List Row
-callRows c waits now count word = tableWith (argumentRows (commandOf (c .op)) c) c waits now count word
+unfoldable pub callRows : Call → Bool → ℕ → ℕ → List Row
+callRows c waits now word = tableWith (argumentRows (commandOf (c .op)) c) c waits now word
 
 -- "Mask is all ones", of a WAIT_BITSET "mask val3"
 abbrev pub maskOf : Command → Call → ℕ

@@ -23,7 +23,7 @@ use Rattle.rules.specs.Calls.{firstRows, noProcess, noThread, caller, ca
 -- The rows behind the first two, in the order of each event.
 abbrev pub ownRows : Event → World → List Row
 ownRows (Call c) w =
-    callRows c (threadOf (w .state) (caller c) .waiting) (w .state .clock) (w .state .count) (wordAt w (c .process) (c .uaddr))
+    callRows c (threadOf (w .state) (caller c) .waiting) (w .state .clock) (wordAt w (c .process) (c .uaddr))
 -- "-6, -9, -3, -22 (not aligned), -14"; "4 uaddr not aligned (also a store's address)"
 ownRows (Store p a v) w = ESRCH when noProcess p ∷ EINVAL because UaddrUnaligned given not (aligned a) ∷ EFAULT when outside a ∷ []
 -- "-6, -9, -22 if earlier than the clock"; "7 clock went back"

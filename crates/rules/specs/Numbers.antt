@@ -1,5 +1,5 @@
--- "Answers by number": the paper's tables with its own numbers, for every event. `answers-by-number` (proofs/Theorems.antt) says that the rules
--- answer so.
+-- "Answers by number": the paper's tables with its own numbers, for every event, without the row for -12, which request (iii) takes out.
+-- `answers-by-number` (proofs/Theorems.antt) says that the rules answer so.
 use mathlib.Core.Bool.{Bool, not, cond, _&&_, _||_}
 use mathlib.Core.List.{List, [], _∷_}
 use Prim.Native.Nat.{ℕ, _+_}
@@ -16,7 +16,7 @@ use Rattle.tables.specs.Sizes.{threadsPerProcess}
 use Rattle.tables.specs.Tables.{World, threadNumber, threadOf, wordAt, aligned, outside, expiredSleepers}
 use Rattle.rules.specs.Commands.{commandOf, notImplemented}
 use Rattle.rules.specs.WakeOp.{undefinedOp}
-use Rattle.rules.specs.Calls.{wrongMemory, brokenTables, noProcess, noThread, caller, badArgument, badAddress, isWakeOp, differs, late, full, released, moved, releasedSecond}
+use Rattle.rules.specs.Calls.{wrongMemory, brokenTables, noProcess, noThread, caller, badArgument, badAddress, isWakeOp, differs, late, released, moved, releasedSecond}
 use Rattle.rules.specs.Events.{waitingSet}
 
 -- A row by its number: the error number negated where the row applies, and else what the rows below it give.
@@ -51,8 +51,7 @@ numbersOf (CallEvent c) w = let k = commandOf (c .op) in
     (refuse 38 (isWakeOp k && undefinedOp (c .val3))
     (refuse 11 (differs k c (wordAt w (c .process) (c .uaddr)))
     (refuse 110 (late k c (w .state .clock))
-    (refuse 12 (full (w .state .count))
-    (done k c w)))))))))))
+    (done k c w))))))))))
 -- "-6, -9, -3, -22 (not aligned), -14, else 0"
 numbersOf (Store p a v) w =
     refuse 6 (wrongMemory w)

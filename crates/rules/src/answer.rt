@@ -14,7 +14,6 @@ pub enum Errno {
     EFAULT,
     EAGAIN,
     ETIMEDOUT,
-    ENOMEM,
 }
 
 impl Errno {
@@ -31,7 +30,6 @@ impl Errno {
             Errno::EFAULT => 14,
             Errno::EAGAIN => 11,
             Errno::ETIMEDOUT => 110,
-            Errno::ENOMEM => 12,
         }
     }
 }

@@ -1,6 +1,6 @@
 -- The arrival list as it is stored: it names threads, and what is split off it and joined to it is what the changes leave.
 use mathlib.Core.Path.{_≡_, refl, sym, ap, _∙_, subst₂}
-use mathlib.Core.Bool.{Bool, true}
+use mathlib.Core.Bool.{Bool, true, false}
 use mathlib.Core.List.{List, [], _∷_, _++_}
 use Prim.Native.Nat.{ℕ, _+_, _-_, _≤_, _<_}
 use native.Mathlib.Omega.{arith}
@@ -22,7 +22,7 @@ use Rattle.tables.specs.Sizes.{threads, noEntry}
 use Rattle.tables.specs.Tables.{freshThread, threadOf, arrivals, change, withThreads, ended, endSleeps, moveSleeps, fallAsleep, asleepAt}
 use Rattle.tables.specs.Steps.{changedBy, Numbers, Flags, flagged, splitOf, endFirst, moveFirst}
 use Rattle.tables.proofs.Changes.{change-none, change-next}
-use Rattle.tables.proofs.Sound.{Sound, listed-below, all-low, once, arrivals-fit}
+use Rattle.tables.proofs.Sound.{Sound, listed-below, all-low, once, arrivals-fit, room}
 
 -- a list of thread numbers, stored
 stored-numbers : (ts : List ℕ) → length ts ≤ threads → all (λ t. ltb t threads) ts ≡ true → Numbers (padTo threads noEntry ts) (length ts)
@@ -84,18 +84,18 @@ module _ (s : State) (g : Sound s) where
         cc (seam taken, seam (leftOver f cap (arrivals s)), left-is)
 
 -- a thread that falls asleep
-pub falls-asleep : (s : State) → Sound s → (t a m : ℕ) (timed : Bool) (due : ℕ) (new : Thread) → t < threads → s .count < threads
+pub falls-asleep : (s : State) → Sound s → (t a m : ℕ) (timed : Bool) (due : ℕ) (new : Thread) → t < threads → threadOf s t .waiting ≡ false
     → new ≡ asleepAt a m timed due (threadOf s t)
     → record { clock = s .clock; threads = set (s .threads) t new; list = set (s .list) (s .count) t; count = s .count + 1 }
     ≡ fallAsleep (asleepAt a m timed due) t s
 unfolding fallAsleep
-falls-asleep s g t a m timed due new low room is =
+falls-asleep s g t a m timed due new low runs is =
     let f = asleepAt a m timed due in
     let records : change f (t ∷ []) (s .threads) ≡ set (s .threads) t new =
     change-next f (λ r. refl) [] (s .threads) t freshThread (omega (arith, g .records)) ∙ rw (change-none f (s .threads)) (ap (set (s .threads) t) (sym is)) in
     let list : set (s .list) (s .count) t ≡ padTo threads noEntry (arrivals s ++ (t ∷ [])) =
     ap (λ l. set l (s .count) t) (g .stored) ∙ ap (λ n. set (padTo threads noEntry (arrivals s)) n t) (g .counted)
-    ∙ padTo-snoc threads noEntry (arrivals s) t (omega (arith, g .counted)) in
+    ∙ padTo-snoc threads noEntry (arrivals s) t (omega (arith, g .counted, room s g t low runs)) in
     let count : s .count + 1 ≡ length (arrivals s ++ (t ∷ [])) = ap (_+ 1) (g .counted) ∙ sym (length-snoc (arrivals s) t) in
     cc (records, list, count)
 

@@ -1,6 +1,6 @@
 // Tables: what the kernel keeps, a clock, a record for each thread and the arrival list with its count; their rules and changes. It stands on arrivals.
 ghost use mathlib.Core.Path.{_≡_};
-ghost use mathlib.Core.Bool.{true, _&&_, _||_};
+ghost use mathlib.Core.Bool.{true, false, _&&_, _||_};
 ghost use Prim.Native.Nat.{_+_, _<_};
 ghost use lib.ListN.{take};
 ghost use lib.Dec.{eqb};
@@ -231,7 +231,8 @@ impl State {
         Taken { state: s, n: n }
     }
 
-    // A running thread sleeps, and joins the end of the list. The kernel calls it where the list has room.
+    // A running thread sleeps, and joins the end of the list, where there is room, since it is not there yet. The kernel calls it for a
+    // caller that is not waiting.
     pub fn fall_asleep(
         mut self,
         t: usize,
@@ -240,7 +241,7 @@ impl State {
         timed: bool,
         deadline: u64,
     ) -> Self
-        requires { ⌜ (tablesOk self ≡ true) × ((t < threads) × (self .count < threads)) ⌝ }
+        requires { ⌜ (tablesOk self ≡ true) × ((t < threads) × (threadOf self t .waiting ≡ false)) ⌝ }
         ensures { λ r. ⌜ r ≡ fallAsleep (asleepAt uaddr bitset timed deadline) t self ⌝ }
     {
         let old = self.threads[t];

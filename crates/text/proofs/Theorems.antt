@@ -12,7 +12,7 @@ use Rattle.io.specs.Digits.{Fewest}
 use Rattle.lists.specs.Lists.{all}
 use Rattle.lists.proofs.Tests.{never}
 use Rattle.rules.specs.declared.answer.Errno.{Errno}
-use Rattle.rules.specs.declared.answer.Errno.the-variants.{ENXIO, EBADF, ESRCH, EBUSY, ENOSYS, EINVAL, EFAULT, EAGAIN, ETIMEDOUT, ENOMEM}
+use Rattle.rules.specs.declared.answer.Errno.the-variants.{ENXIO, EBADF, ESRCH, EBUSY, ENOSYS, EINVAL, EFAULT, EAGAIN, ETIMEDOUT}
 use Rattle.rules.specs.declared.answer.Reason.the-variants.{FirstCap}
 use Rattle.rules.specs.declared.answer.Answer.{Answer}
 use Rattle.rules.specs.declared.answer.Answer.the-variants.{Asleep, Count, Refused, Waiting}
@@ -39,7 +39,6 @@ negated-line EINVAL = refl
 negated-line EFAULT = refl
 negated-line EAGAIN = refl
 negated-line ETIMEDOUT = refl
-negated-line ENOMEM = refl
 
 -- "one line an event: the number, or `asleep`": the number is the one that document 01 gives to the answer.
 pub line-of-number : (a : Answer) (z : ℤ) → (a ≡ Asleep → ⊥) → answerNumbers a ≡ z ∷ [] → lineOf a ≡ numberLine z

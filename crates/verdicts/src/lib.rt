@@ -20,7 +20,6 @@ use rules::event::Call;
 use tables::PROCESS_BYTES;
 use tables::PROCESSES;
 use tables::State;
-use tables::THREADS;
 use tables::WORD_BYTES;
 
 const MAX_CAP: u32 = 2147483647;
@@ -136,13 +135,12 @@ fn late(c: Call, now: u64) -> bool
 }
 
 // The verdict on a call whose memory and tables are sound, from the last row of the table up to its third.
-pub fn verdict_on(c: Call, waits: bool, now: u64, count: usize, word: u32) -> Verdict
-    ensures { λ r. ⌜ r ≡ first (callRows c waits now count word) ⌝ }
+pub fn verdict_on(c: Call, waits: bool, now: u64, word: u32) -> Verdict
+    ensures { λ r. ⌜ r ≡ first (callRows c waits now word) ⌝ }
 {
     let u = uses_by(c.op);
     let undefined = undefined_op(c.val3);
-    let v = row(Errno::ENOMEM, THREADS <= count, Verdict::Pass);
-    let v = row(Errno::ETIMEDOUT, late(c, now), v);
+    let v = row(Errno::ETIMEDOUT, late(c, now), Verdict::Pass);
     let v = row(Errno::EAGAIN, differs(c, word), v);
     let v = row(Errno::ENOSYS, u.second & !u.moves & undefined, v);
     let v = row(Errno::EFAULT, bad_address(c), v);

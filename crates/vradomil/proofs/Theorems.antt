@@ -19,7 +19,7 @@ use Rattle.tables.specs.Tables.{tablesOk, fresh}
 use Rattle.rules.specs.declared.event.Call.{Call}
 use Rattle.rules.specs.declared.event.Event.{Event}
 use Rattle.rules.specs.declared.event.Event.the-variants.{Call as CallEvent, Store, Clock, Interrupt, Query}
-use Rattle.rules.specs.declared.answer.Errno.the-variants.{ENXIO, EBADF, ESRCH, EBUSY, ENOSYS, EINVAL, EFAULT, EAGAIN, ETIMEDOUT, ENOMEM}
+use Rattle.rules.specs.declared.answer.Errno.the-variants.{ENXIO, EBADF, ESRCH, EBUSY, ENOSYS, EINVAL, EFAULT, EAGAIN, ETIMEDOUT}
 use Rattle.rules.specs.declared.answer.Panel.{Panel}
 use Rattle.rules.specs.declared.answer.Answer.{Answer}
 use Rattle.rules.specs.declared.answer.Answer.the-variants.{Asleep, Count, Refused, Waiting}
@@ -45,8 +45,8 @@ words-stand ws long fit = words-back memoryWords ws long fit
 -- threads 1 and 3 asleep a panel query is 10 in the lowest byte, 2 in the second, 1 above.
 pub host-numbers : (n : ℕ)
     → (hostNumber Asleep ≡ pos 2147483647) × (hostNumber (Count n) ≡ pos n)
-    × (map (λ x. hostNumber (Refused (plain x))) (ENXIO ∷ EBADF ∷ ESRCH ∷ EBUSY ∷ ENOSYS ∷ EINVAL ∷ EFAULT ∷ EAGAIN ∷ ETIMEDOUT ∷ ENOMEM ∷ [])
-    ≡ map (λ k. negℤ (pos k)) (6 ∷ 9 ∷ 3 ∷ 16 ∷ 38 ∷ 22 ∷ 14 ∷ 11 ∷ 110 ∷ 12 ∷ []))
+    × (map (λ x. hostNumber (Refused (plain x))) (ENXIO ∷ EBADF ∷ ESRCH ∷ EBUSY ∷ ENOSYS ∷ EINVAL ∷ EFAULT ∷ EAGAIN ∷ ETIMEDOUT ∷ [])
+    ≡ map (λ k. negℤ (pos k)) (6 ∷ 9 ∷ 3 ∷ 16 ∷ 38 ∷ 22 ∷ 14 ∷ 11 ∷ 110 ∷ []))
     × (hostNumber (Waiting (panelOf 10)) ≡ pos 0x01020A)
 unfolding ones trailingZeros
 host-numbers n = (refl, refl, refl, refl)

@@ -26,7 +26,6 @@ use commands::uses_by;
 use commands::word_index;
 use effects::only_if;
 use layout::CLOCK_AT;
-use layout::COUNT_AT;
 use layout::WORD_SIZE;
 use layout::read::hits;
 use layout::read::thread_at;
@@ -141,8 +140,7 @@ fn judge(tables: &[u8], words: &[u8], c: Call) -> Verdict
             let i = word_index(c.process, c.uaddr);
             let word = word_at(words, i);
             let clock = u64_at(tables, CLOCK_AT);
-            let count = u64_at(tables, COUNT_AT) as usize;
-            verdict_on(c, thread.waiting, clock, count, word)
+            verdict_on(c, thread.waiting, clock, word)
         }
     }
 }

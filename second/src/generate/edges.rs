@@ -1,6 +1,6 @@
 //! The edge script: the twelve cases of document 01, its edge numbers, every
-//! refusal and the order between them, the slips it names, and the reasons and
-//! the signed WAKE_OP of document 02.
+//! refusal and the order between them, the slips it names, and the reasons, the
+//! signed WAKE_OP and the full list of document 02.
 
 mod arguments;
 mod broken;
@@ -14,7 +14,7 @@ mod twelve;
 
 use crate::model::Event;
 use crate::script::Script;
-use crate::shorthand as s;
+use crate::shorthand::{self as s, Who};
 
 /// The whole script.
 pub fn script() -> Vec<u8> {
@@ -57,6 +57,30 @@ fn one_of_each() -> Vec<Event> {
         s::clock(u64::MAX),
         s::wait(who, 8, 0),
         s::wait_until((0, 6), 8, 0, 1, u64::MAX),
+    ]
+}
+
+/// Every form of wait and every other command by one caller, and every other
+/// kind of event: each good on tables where that thread runs and its process
+/// has word 0 at 8 and 12.
+pub fn each_by(who: Who) -> Vec<Event> {
+    vec![
+        s::wait(who, 8, 0),
+        s::wait_for(who, 8, 0, 1),
+        s::wait_bitset(who, 8, 0, 1),
+        s::wait_until(who, 8, 0, 1, u64::MAX),
+        s::wake(who, 8, 1),
+        s::wake_bitset(who, 8, 1, 1),
+        s::requeue(who, 8, 12, 1, 1),
+        s::cmp_requeue(who, 8, 12, (1, 1), 0),
+        s::wake_op(who, 8, 12, (1, 1), 0x1000_1000),
+        s::store(who.0, 8, 5),
+        s::clock(u64::MAX),
+        s::interrupt(who),
+        s::interrupt((7 - who.0, who.1)),
+        s::query(who.0),
+        s::query(7 - who.0),
+        s::query(8),
     ]
 }
 

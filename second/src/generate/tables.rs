@@ -13,6 +13,11 @@ pub fn sound(rng: &mut Rng) -> State {
         8 => 63,
         _ => rng.below(65),
     } as usize;
+    with_sleepers(rng, sleepers)
+}
+
+/// Tables that keep every rule, with so many sleepers.
+pub fn with_sleepers(rng: &mut Rng, sleepers: usize) -> State {
     let mut state = State::fresh();
     state.clock = match rng.below(4) {
         0 => rng.pick(EDGE_U64),
@@ -65,8 +70,27 @@ pub fn base() -> State {
     state
 }
 
-/// Breaks one rule of tables that have a sleeper and room on the list. It is
-/// given the first listed sleeper and a running thread.
+/// All threads, in an order that mixes the processes (37 and 64 have no common
+/// divisor).
+pub fn mixed() -> impl Iterator<Item = usize> {
+    (0..THREADS).map(|place| place * 37 % THREADS)
+}
+
+/// Sound tables where every thread but one sleeps.
+pub fn nearly_full(awake: usize) -> State {
+    let mut state = State::fresh();
+    state.clock = 50;
+    state.threads[awake].last = 1;
+    for number in mixed().filter(|&number| number != awake) {
+        let uaddr = if number % 3 == 0 { 12 } else { 8 };
+        let deadline = (number % 2 == 0).then_some(100 + number as u64);
+        state.join(number, uaddr, 1 + number as u32 % 3, deadline);
+    }
+    state
+}
+
+/// Breaks one rule of tables that have a sleeper and room for two on the list.
+/// It is given the first listed sleeper and a running thread.
 pub type Break = fn(&mut State, usize, usize);
 
 /// The rules of the list.
@@ -141,6 +165,56 @@ pub const LAST_BREAKS: &[Break] = &[
     |s, _, running| s.threads[running].last = 4,
     |s, _, running| s.threads[running].last = 255,
 ];
+
+/// What makes a list of 63 say 64 or more although a thread runs.
+const OVERFULL_BREAKS: &[Break] = &[
+    // The running thread listed behind the others, before them, among them.
+    |s, _, running| append(s, running as u8),
+    |s, _, running| insert(s, 0, running as u8),
+    |s, _, running| insert(s, 31, running as u8),
+    // The first or the last sleeper listed twice.
+    |s, sleeper, _| append(s, sleeper as u8),
+    |s, _, _| {
+        let last = s.list[62];
+        append(s, last);
+    },
+    // Entries that stand for no thread, the third being the running one if
+    // only six bits are looked at.
+    |s, _, _| append(s, NO_ENTRY),
+    |s, _, _| append(s, 64),
+    |s, _, running| append(s, 64 + running as u8),
+    |s, _, _| append(s, 200),
+    // More than 64. The sums look like 63 where a count is cut to 8 or 32 bits.
+    |s, _, _| s.count = 65,
+    |s, _, _| s.count += 256,
+    |s, _, _| s.count = 1 << 32,
+    |s, _, _| s.count += 1 << 32,
+    |s, _, _| s.count = u64::MAX,
+    // All 64 asleep, but that one record is set to running by its flag alone.
+    |s, _, running| {
+        s.join(running, 8, 1, Some(1000));
+        s.threads[running].waiting = false;
+    },
+];
+
+/// Tables whose list says 64 or more although this thread runs.
+pub fn overfull(running: usize) -> Vec<State> {
+    let sound = nearly_full(running);
+    let sleeper = sound.list[0] as usize;
+    let broken = |breaks: &Break| {
+        let mut state = sound.clone();
+        breaks(&mut state, sleeper, running);
+        state
+    };
+    OVERFULL_BREAKS.iter().map(broken).collect()
+}
+
+/// Puts an entry at a place of the list; the last entry falls off.
+fn insert(state: &mut State, place: usize, entry: u8) {
+    state.list[place..].rotate_right(1);
+    state.list[place] = entry;
+    state.count += 1;
+}
 
 fn append(state: &mut State, entry: u8) {
     state.list[state.count as usize] = entry;

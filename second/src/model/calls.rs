@@ -136,7 +136,7 @@ fn sleep(
         return Err(ETIMEDOUT.into());
     }
     // Sound tables with a running caller list at most 63, so this one never
-    // answers; it stands because the table of answers has it.
+    // answers; it stands because document 01's table has it.
     if state.count >= THREADS as u64 {
         return Err(ENOMEM.into());
     }

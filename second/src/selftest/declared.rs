@@ -123,6 +123,7 @@ fn call_refusal(state: &State, words: &[u32], call: &Call) -> Option<i32> {
         || used.iter().any(|address| address & 3 != 0)
         || ([3, 4].contains(&command) && call.uaddr == call.uaddr2);
     let differs = |expected| words[word(call.process, call.uaddr)] != expected;
+    // -12 has no row, for it never comes (`never`).
     let rows: [(i32, &dyn Fn() -> bool); 8] = [
         (-3, &|| call.process > 7 || call.index > 7),
         (-16, &|| state.threads[caller].waiting),

@@ -6,7 +6,7 @@ use native.Mathlib.Omega.{arith}
 use lib.ListN.{length, set, length-set}
 use Rattle.tables.specs.Sizes.{threads}
 use Rattle.tables.specs.Tables.{threadOf, withSleep, asleepAt}
-use Rattle.tables.proofs.Sound.{tables-sound}
+use Rattle.tables.proofs.Sound.{tables-sound, room}
 use Rattle.tables.proofs.Stored.{falls-asleep}
 use Rattle.layout.specs.Layout.{tablesSize, stateAt, tablesBytes}
 use Rattle.layout.proofs.Reading.{count-read}
@@ -22,7 +22,9 @@ use Rattle.changes.proofs.fall_asleep.Tie as tie
 low : (c : tie.After-u64-at) → c .u64-at .result < threads
 low c =
     let g = c .before .before .before .before in
-    omega (arith, c .u64-at .ensures .0, count-read (now (g .args .b)), g .pre .1 .1)
+    let b = now (g .args .b) in
+    let free = room (stateAt b) (tables-sound (stateAt b) (g .pre .0 .sound)) (g .args .t) (g .pre .1 .0) (g .pre .1 .1) in
+    omega (arith, c .u64-at .ensures .0, count-read b, free)
 
 size : (c : tie.After-put-sleep) → length (c .put-sleep .last .0) ≡ tablesSize
 size c = c .put-sleep .kept .0 ∙ c .before .before .before .before .before .before .pre .0 .size

@@ -1,4 +1,4 @@
-use Rattle.commands.proofs.Places.{thread-there}
+use Rattle.commands.proofs.Places.{thread-below, thread-there}
 use borrow.Author.Needs.{needs}
 use Rattle.rules.specs.Calls.{wait}
 use Rattle.effects.proofs.wait.Statement.{statement}
@@ -20,7 +20,11 @@ deadline-of-requires : tie.Need-deadline-of-requires
 deadline-of-requires c κs = search needs
 
 fall-asleep-requires : tie.Need-fall-asleep-requires
-fall-asleep-requires c κs = search needs
+fall-asleep-requires c κs =
+    let i = c .before .before .before in
+    let g = i .before .before .pre in
+    let at = i .thread-index .ensures in
+    (g .tables, (thread-below _ _ at, rw (thread-there _ _ at (g .process) (g .index)) (g .runs)))
 
 returns : tie.Need-returns
 unfolding wait

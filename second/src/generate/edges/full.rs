@@ -1,20 +1,37 @@
-//! A full list: all but one thread asleep, over all processes.
+//! A full list: all but one thread asleep, over all processes, or all of them,
+//! and tables that say so falsely. Here -12 would come, if anywhere.
 
+mod again;
+mod damaged;
+mod last;
+mod refused;
+
+use crate::generate::tables;
 use crate::model::{Event, THREADS};
 use crate::script::Script;
-use crate::shorthand as s;
+use crate::shorthand::{self as s, Who};
 
 /// The thread that stays awake is thread 5, (0, 5).
 const AWAKE: usize = 5;
+const WHO: Who = (0, AWAKE as u8);
 
 pub fn add(script: &mut Script) {
-    let who = (0, AWAKE as u8);
+    one_event(script);
+    all_asleep(script);
+    last::add(script);
+    refused::add(script);
+    again::add(script);
+    damaged::add(script);
+}
+
+/// One event while 63 sleep, then the last thread waits.
+fn one_event(script: &mut Script) {
     let calls = [
-        s::wake(who, 8, 2147483647),
-        s::wake_bitset(who, 8, 2147483647, 2),
-        s::requeue(who, 8, 12, 2, 2147483647),
-        s::cmp_requeue(who, 8, 12, (0, 2), 0),
-        s::wake_op(who, 8, 12, (2147483647, 2147483647), 0x1000_1000),
+        s::wake(WHO, 8, 2147483647),
+        s::wake_bitset(WHO, 8, 2147483647, 2),
+        s::requeue(WHO, 8, 12, 2, 2147483647),
+        s::cmp_requeue(WHO, 8, 12, (0, 2), 0),
+        s::wake_op(WHO, 8, 12, (2147483647, 2147483647), 0x1000_1000),
         s::clock(1000),
         s::clock(1030),
         s::clock(u64::MAX),
@@ -26,22 +43,18 @@ pub fn add(script: &mut Script) {
         fill(script);
         script.event(call);
         script.dump();
-        script.event(s::wait(who, 0, 0));
+        script.event(s::wait(WHO, 0, 0));
         script.dump();
         queries(script);
     }
-    all_asleep(script);
 }
 
-/// Threads go to sleep in an order that mixes the processes (37 and 64 have no
-/// common divisor), at two words, with and without deadlines and masks.
+/// Threads go to sleep in a mixed order, at two words, with and without
+/// deadlines and masks.
 fn fill(script: &mut Script) {
     script.fresh();
-    for place in 0..THREADS {
-        let number = place * 37 % THREADS;
-        if number != AWAKE {
-            script.event(sleep(number));
-        }
+    for number in tables::mixed().filter(|&number| number != AWAKE) {
+        script.event(sleep(number));
     }
 }
 
@@ -66,7 +79,7 @@ fn queries(script: &mut Script) {
 /// can end a sleep. Then they all wait again in another order.
 fn all_asleep(script: &mut Script) {
     fill(script);
-    script.event(s::wait((0, AWAKE as u8), 8, 0));
+    script.event(s::wait(WHO, 8, 0));
     script.dump();
     queries(script);
     for number in 0..THREADS as u8 {

@@ -1,8 +1,14 @@
+use Prim.Native.Nat.{_<_}
 use borrow.Author.Needs.{needs}
-use Rattle.tables.proofs.Sound.{tables-sound}
+use Rattle.tables.specs.Sizes.{threads}
+use Rattle.tables.proofs.Sound.{tables-sound, room}
 use Rattle.tables.proofs.Stored.{falls-asleep}
 use Rattle.tables.proofs.State.fall_asleep.Statement.{statement}
 use Rattle.tables.proofs.State.fall_asleep.Tie as tie
+
+-- the entry that is written is the first that is free
+free : (g : tie.Start) → g .args .t1 .count < threads
+free g = room (g .args .t1) (tables-sound (g .args .t1) (g .pre .0)) (g .args .t) (g .pre .1 .0) (g .pre .1 .1)
 
 mul-old : tie.Need-mul-old
 mul-old c = search needs
@@ -23,10 +29,10 @@ cast-self : tie.Need-cast-self
 cast-self c = search needs
 
 element-write-self : tie.Need-element-write-self
-element-write-self c = search needs
+element-write-self c = let l = free (c .before .before) in search needs
 
 add-self : tie.Need-add-self
-add-self c = search needs
+add-self c = let l = free (c .before .before) in search needs
 
 returns : tie.Need-returns
 returns c =

@@ -7,7 +7,7 @@ use mir.Syntax.{w32}
 use mir.Val.{SFits, toZ}
 use mir.Facts.{toZ-ofZ, toZ-pos}
 use Rattle.rules.specs.declared.answer.Errno.{Errno}
-use Rattle.rules.specs.declared.answer.Errno.the-variants.{ENXIO, EBADF, ESRCH, EBUSY, ENOSYS, EINVAL, EFAULT, EAGAIN, ETIMEDOUT, ENOMEM}
+use Rattle.rules.specs.declared.answer.Errno.the-variants.{ENXIO, EBADF, ESRCH, EBUSY, ENOSYS, EINVAL, EFAULT, EAGAIN, ETIMEDOUT}
 use Rattle.rules.specs.Answers.{errnoNumber}
 use Rattle.vradomil.proofs.answer.refusal.Statement.{statement}
 use Rattle.vradomil.proofs.answer.refusal.Tie as tie
@@ -23,7 +23,6 @@ errno-small EINVAL = omega arith
 errno-small EFAULT = omega arith
 errno-small EAGAIN = omega arith
 errno-small ETIMEDOUT = omega arith
-errno-small ENOMEM = omega arith
 
 negated : (n : ℕ) → n ≤ errnoNumber ETIMEDOUT → pos 0 -ℤ toZ w32 n ≡ negℤ (pos n)
 negated n few = ap (pos 0 -ℤ_) (toZ-pos w32 {n = n} (omega arith)) ∙ +ℤ-idl (negℤ (pos n))

@@ -10,7 +10,7 @@ use Rattle.rules.specs.Calls.{callRows}
 use Rattle.refusals.proofs.Read.{verdict-is}
 use Rattle.layout.specs.Layout.{tablesAt, wordsAt, memorySize}
 use Rattle.layout.specs.Check.{Held}
-use Rattle.layout.proofs.Reading.{thread-read, clock-read, count-read}
+use Rattle.layout.proofs.Reading.{thread-read, clock-read}
 use Rattle.rules.proofs.Rows.{not-pass}
 use Rattle.vradomil.proofs.Steps.{event-refused, buffers-passed}
 use Rattle.commands.proofs.Places.{thread-below, word-below}
@@ -49,9 +49,6 @@ word-at-requires c κs = (long (c .before .before .before), word-below _ _ (c .w
 u64-at-requires : tie.Need-u64-at-requires
 u64-at-requires c κs = omega (arith, held (c .before .before .before .before) .size)
 
-u64-at-requires-2 : tie.Need-u64-at-requires-2
-u64-at-requires-2 c κs = omega (arith, held (c .before .before .before .before .before) .size)
-
 verdict-on-requires : tie.Need-verdict-on-requires
 verdict-on-requires c κs = search needs
 
@@ -69,8 +66,7 @@ returns c =
 
 returns-2 : tie.Need-returns-2
 returns-2 c =
-    let n = c .before in
-    let k = n .before in
+    let k = c .before in
     let w = k .before in
     let i = w .before in
     let r = i .before in
@@ -85,12 +81,11 @@ returns-2 c =
     let h = held p in
     let thread = r .thread-at .ensures ∙ sym (thread-read b x (thread-below _ _ (t .thread-index .ensures))) in
     let clock = k .u64-at .ensures .0 ∙ clock-read b in
-    let count = n .u64-at2 .ensures .0 ∙ count-read b in
     record {
       verdict = c .verdict-on .ensures
-          ∙ (λ j. first (callRows (g .args .c) (thread j .waiting) (clock j) (count j) (w .word-at .ensures j)))
-          ∙ ap (λ (s : State). first (callRows (g .args .c) (threadOf s x .waiting) (s .clock) (s .count) (getD ws (i .word-index .result) 0))) (sym (h .tables))
-          ∙ sym (buffers-passed b m (l .judge-buffers .result) (l .judge-buffers .ensures) (callRows (g .args .c) (threadOf (tablesAt b) x .waiting) (tablesAt b .clock) (tablesAt b .count) (getD ws (i .word-index .result) 0)) (p .enum-told .given .1))
+          ∙ (λ j. first (callRows (g .args .c) (thread j .waiting) (clock j) (w .word-at .ensures j)))
+          ∙ ap (λ (s : State). first (callRows (g .args .c) (threadOf s x .waiting) (s .clock) (getD ws (i .word-index .result) 0))) (sym (h .tables))
+          ∙ sym (buffers-passed b m (l .judge-buffers .result) (l .judge-buffers .ensures) (callRows (g .args .c) (threadOf (tablesAt b) x .waiting) (tablesAt b .clock) (getD ws (i .word-index .result) 0)) (p .enum-told .given .1))
           ∙ verdict-is (g .args .c) (tablesAt b) ws x (i .word-index .result) (t .thread-index .ensures) (i .word-index .ensures);
       held = λ e. h;
       long = λ e. long p;
@@ -108,7 +103,6 @@ judge-spec =
     word-index-requires
     word-at-requires
     u64-at-requires
-    u64-at-requires-2
     verdict-on-requires
     returns
     returns-2)

@@ -32,7 +32,10 @@ deadline-of-requires : tie.Need-deadline-of-requires
 deadline-of-requires c κs = search needs
 
 fall-asleep-requires : tie.Need-fall-asleep-requires
-fall-asleep-requires c κs = (start c .pre .held, (thread-below _ _ (c .before .before .before .before .before .before .thread-index .ensures), start c .pre .ready .room))
+fall-asleep-requires c κs =
+    let g = start c .pre in
+    let at = c .before .before .before .before .before .before .thread-index .ensures in
+    (g .held, (thread-below _ _ at, rw (thread-there _ _ at (g .ready .process) (g .ready .index)) (g .ready .runs)))
 
 same-length : tie.Need-same-length
 same-length c = search needs
