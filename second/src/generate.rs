@@ -1,6 +1,7 @@
 //! Generators of histories, tables, logs and scripts. All of them are fixed by
 //! their seed.
 
+pub mod cuts;
 pub mod edges;
 pub mod events;
 pub mod logs;

@@ -1,25 +1,29 @@
 //! The program over the second kernel: it replays logs, runs test scripts and
-//! makes both.
+//! cuts logs, and makes what these need.
 
 use std::io::{self, BufWriter, Read, Write};
 use std::process::ExitCode;
 use std::time::Instant;
 
-use second::generate::{edges, events, logs, random};
+use second::generate::{cuts, edges, events, logs, random};
 use second::model::{self, State, WORDS};
 use second::rng::Rng;
-use second::{log, script, selftest};
+use second::{replay, script, selftest};
 
 const USAGE: &str = "usage:
   second replay < LOG
+  second replay-unchecked < LOG
   second run-script < SCRIPT
+  second run-cuts < SCRIPT
   second make-script edges
   second make-script faults
   second make-script random SEED N
   second make-log sample SEED N
+  second make-log long SEED BYTES
   second make-log damaged SEED
   second make-log story
   second make-logs FOLDER
+  second make-cuts SEED
   second selftest
   second speed SEED N";
 
@@ -38,16 +42,21 @@ fn main() -> ExitCode {
 fn run(arguments: &[&str]) -> io::Result<ExitCode> {
     let mut out = BufWriter::new(io::stdout().lock());
     match *arguments {
-        ["replay"] => out.write_all(log::replay(&input()?).as_bytes())?,
+        ["replay"] => replay::run(&mut io::stdin().lock(), &mut out)?,
+        ["replay-unchecked"] => replay::run_unchecked(&mut io::stdin().lock(), &mut out)?,
         ["run-script"] => script::run(&input()?, &mut out)?,
+        ["run-cuts"] => second::cuts::run(&mut io::stdin().lock(), &mut out)?,
         ["make-script", "edges"] => out.write_all(&edges::script())?,
         ["make-script", "faults"] => out.write_all(&edges::faults())?,
         ["make-script", "random", seed, n] => random::write(number(seed)?, number(n)?, &mut out)?,
         ["make-log", "sample", seed, n] => {
             out.write_all(&logs::whole(&mut Rng::new(number(seed)?), number(n)?))?;
         }
+        ["make-log", "long", seed, bytes] => {
+            logs::write_long(&mut Rng::new(number(seed)?), number(bytes)?, &mut out)?;
+        }
         ["make-log", "damaged", seed] => {
-            out.write_all(&logs::damaged(&mut Rng::new(number(seed)?)))?;
+            out.write_all(&logs::damaged(&mut Rng::new(number(seed)?), 30))?;
         }
         ["make-log", "story"] => out.write_all(&logs::story())?,
         ["make-logs", folder] => {
@@ -55,6 +64,7 @@ fn run(arguments: &[&str]) -> io::Result<ExitCode> {
                 std::fs::write(format!("{folder}/{number}"), log)?;
             }
         }
+        ["make-cuts", seed] => cuts::write(&mut Rng::new(number(seed)?), &mut out)?,
         ["selftest"] => {
             drop(out);
             return Ok(selftest());

@@ -141,31 +141,36 @@ impl From<i32> for Refusal {
     }
 }
 
-/// Applies one event. A refusal is an `Err` inside, so that each test can
-/// leave at once; nothing is changed before the last test has passed.
+/// Applies one event. The lent memory and the tables are tested first, except
+/// that a panel query takes no words.
 pub fn step(state: &mut State, words: &mut [u32], event: &Event) -> Report {
+    let panel = matches!(event, Event::Query { .. });
+    if !panel && words.len() != WORDS {
+        return Report::plain(Answer::Number(ENXIO));
+    }
+    match state.rules_hold() {
+        true => step_sound(state, words, event),
+        false if panel => Report::plain(Answer::Panel(0, 0, 8)),
+        false => Report::plain(Answer::Number(EBADF)),
+    }
+}
+
+/// The same without these two tests, for a caller whose memory has its length
+/// and whose tables are sound: they stay so. A refusal is an `Err` inside, so
+/// that each test can leave at once; nothing is changed before the last test
+/// has passed.
+pub fn step_sound(state: &mut State, words: &mut [u32], event: &Event) -> Report {
     let result = match *event {
         Event::Call(ref call) => calls::call(state, words, call),
-        Event::Store { process, address, value } => store(state, words, process, address, value),
-        Event::Clock { time } => clock(state, words, time),
-        Event::Interrupt { process, index } => interrupt(state, words, process, index),
+        Event::Store { process, address, value } => store(words, process, address, value),
+        Event::Clock { time } => clock(state, time),
+        Event::Interrupt { process, index } => interrupt(state, process, index),
         Event::Query { process } => Ok(query(state, process)),
     };
     match result {
         Ok(answer) => Report::plain(answer),
         Err(Refusal { number, reason }) => Report { answer: Answer::Number(number), reason },
     }
-}
-
-/// The two tests that come first for every event but a panel query.
-fn check_lent(state: &State, words: &[u32]) -> Result<(), Refusal> {
-    if words.len() != WORDS {
-        return Err(ENXIO.into());
-    }
-    if !state.rules_hold() {
-        return Err(EBADF.into());
-    }
-    Ok(())
 }
 
 /// Thread (p, i) has number 8p + i; a number above 7 names no thread.
@@ -184,14 +189,7 @@ fn word_number(process: u8, address: u32) -> usize {
     WORDS_PER_PROCESS * process as usize + (address / 4) as usize
 }
 
-fn store(
-    state: &State,
-    words: &mut [u32],
-    process: u8,
-    address: u32,
-    value: u32,
-) -> Result<Answer, Refusal> {
-    check_lent(state, words)?;
+fn store(words: &mut [u32], process: u8, address: u32, value: u32) -> Result<Answer, Refusal> {
     if process as usize >= PROCESSES {
         return Err(ESRCH.into());
     }
@@ -205,8 +203,7 @@ fn store(
     Ok(Answer::Number(0))
 }
 
-fn clock(state: &mut State, words: &[u32], time: u64) -> Result<Answer, Refusal> {
-    check_lent(state, words)?;
+fn clock(state: &mut State, time: u64) -> Result<Answer, Refusal> {
     if time < state.clock {
         return Err(Refusal::argument(CLOCK_WENT_BACK));
     }
@@ -215,16 +212,14 @@ fn clock(state: &mut State, words: &[u32], time: u64) -> Result<Answer, Refusal>
     Ok(Answer::Number(state.end_sleeps(u32::MAX, TIMED_OUT, over)))
 }
 
-fn interrupt(state: &mut State, words: &[u32], process: u8, index: u8) -> Result<Answer, Refusal> {
-    check_lent(state, words)?;
+fn interrupt(state: &mut State, process: u8, index: u8) -> Result<Answer, Refusal> {
     let target = thread_number(process, index).ok_or(ESRCH)?;
     // Only waiting threads are on the list, so a running one ends nothing: 0.
     Ok(Answer::Number(state.end_sleeps(1, INTERRUPTED, |number, _| number == target)))
 }
 
-/// The panel query takes no words; what it cannot answer is 0, 0, 8.
 fn query(state: &State, process: u8) -> Answer {
-    if process as usize >= PROCESSES || !state.rules_hold() {
+    if process as usize >= PROCESSES {
         return Answer::Panel(0, 0, 8);
     }
     let mut bits = 0u8;

@@ -1,9 +1,10 @@
 //! Checks of this program by itself: the cases of document 01, its sentences
-//! one by one, the reasons, the signed WAKE_OP and the refusal that never comes
-//! of document 02, round trips, and random runs against the rules said once
-//! more in another way.
+//! one by one, the reasons, the signed WAKE_OP, the refusal that never comes and
+//! the log in pieces of document 02, round trips, and random runs against the
+//! rules said once more in another way.
 
 mod calls;
+mod cuts;
 mod declared;
 mod histories;
 mod layouts;
@@ -11,13 +12,18 @@ mod logs;
 mod never;
 mod operations;
 mod others;
+mod pieces;
 mod reasons;
+mod replays;
 mod scripts;
 mod twelve;
 
 use std::fmt::Debug;
 
+use crate::log::{Cursor, Read, ENODATA};
 use crate::model::{self, Answer, Event, Report, State, WORDS};
+use crate::pieces::Ended;
+use crate::replay;
 
 /// Counts what held and prints what didn't.
 #[derive(Default)]
@@ -81,6 +87,33 @@ impl Display {
     }
 }
 
+/// The events of a whole log in one go, and how it ends.
+fn one_go(log: &[u8]) -> (Vec<Event>, Ended) {
+    let mut cursor = Cursor { bytes: log, place: 0 };
+    let mut events = Vec::new();
+    loop {
+        match cursor.read() {
+            Read::Event(event) => events.push(event),
+            Read::End => return (events, Ended::Clean),
+            Read::Refused(ENODATA) => return (events, Ended::Cut),
+            Read::Refused(_) => return (events, Ended::Unreadable),
+        }
+    }
+}
+
+fn text(bytes: &[u8]) -> String {
+    String::from_utf8_lossy(bytes).into_owned()
+}
+
+/// What a replay prints for a log.
+fn replayed(mut log: &[u8]) -> String {
+    let mut out = Vec::new();
+    match replay::run(&mut log, &mut out) {
+        Ok(()) => text(&out),
+        Err(error) => error.to_string(),
+    }
+}
+
 pub fn run() -> Checks {
     let mut checks = Checks::default();
     twelve::run(&mut checks);
@@ -89,8 +122,11 @@ pub fn run() -> Checks {
     others::run(&mut checks);
     reasons::run(&mut checks);
     logs::run(&mut checks);
+    pieces::run(&mut checks);
+    replays::run(&mut checks);
     layouts::run(&mut checks);
     scripts::run(&mut checks);
+    cuts::run(&mut checks);
     histories::run(&mut checks);
     never::run(&mut checks);
     checks

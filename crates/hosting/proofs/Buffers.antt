@@ -136,7 +136,7 @@ wrong-panel p b other = ap (λ x. packed (panelOf (cond (noProcess p || not x) 0
     ∙ cases (noProcess p) (λ e. rw e) (λ e. rw e)
 
 -- one event: the bytes that it leaves stand for what the rules leave
-after : {e : Event} {b m lent b1 m1 told : List ℕ} {r : ℤ} → Lent b m → Hosted e b m lent r b1 m1 told → (seen b1 m1 ≡ step e (seen b m) .world) × Lent b1 m1
+pub after : {e : Event} {b m lent b1 m1 told : List ℕ} {r : ℤ} → Lent b m → Hosted e b m lent r b1 m1 told → (seen b1 m1 ≡ step e (seen b m) .world) × Lent b1 m1
 after {e} {b} {m} {b1 = b1} {m1} (inl s) h =
     let stand = stepped b m s h in
     let is = seen-is b1 m1 (step e (seen b m) .world) stand in
@@ -154,3 +154,8 @@ ran room (next {es = es} long h run) l =
     let rest = ran room run (one .1) in
     let told = rest .0 ∙ ap (λ w. hearsAll room es (answers es w)) (one .0) in
     (λ j. heard-is room long h j ∷ told j, rest .1 ∙ ap (final es) (one .0))
+
+-- and what it leaves is lent again
+pub ran-lent : (room : Event → ℕ) {h : List Event} {b m b2 m2 : List ℕ} {hs : List Heard} → HostRuns room h b m hs b2 m2 → Lent b m → Lent b2 m2
+ran-lent room over l = l
+ran-lent room (next long h run) l = ran-lent room run (after l h .1)

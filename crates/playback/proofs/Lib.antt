@@ -1,3 +1,5 @@
+pub mod Lines
 pub mod Turns
-pub mod Printed
+pub mod Leaving
+pub mod Texts
 pub mod Theorems

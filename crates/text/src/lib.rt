@@ -1,8 +1,9 @@
-// Text: numbers and answers as lines of text, written into a lent slice. It stands on rules.
+// Text: numbers as lines of text, written into a lent slice. It stands on rules.
 ghost use Prim.Native.Nat.{_+_, _≤_};
+ghost use mathlib.Core.Path.{_≡_};
+ghost use lib.IntN.{pos, _+ℤ_};
 ghost use lib.ListN.{length};
-ghost use Rattle.text.specs.Text.{wordDigits, decimal, countLine, refusalLine, lineOf, lineRoom, Puts};
-use rules::answer::Answer;
+ghost use Rattle.text.specs.Text.{wordDigits, decimal, countLine, refusalLine, hostLine, raise, Spoken, lineRoom, Puts};
 
 // The most digits of a number of 64 bits: io::decimal's room.
 const DIGITS: usize = 20;
@@ -16,6 +17,12 @@ const WORD_DIGITS: usize = 10;
 
 // No line is longer than a minus sign, these digits and the line end.
 pub const LINE_ROOM: usize = 1 + WORD_DIGITS + 1;
+
+// To a host, "asleep" is this number.
+const ASLEEP: u64 = 2147483647;
+
+// Above every number of 32 bits.
+const RAISE: u64 = 4294967296;
 
 // Bytes at a place; the next place.
 fn put(src: &[u8], out: &mut [u8], k: usize) -> usize
@@ -55,19 +62,27 @@ pub fn put_refusal(v: u32, out: &mut [u8], k: usize) -> usize
     put_count(v, out, k + 1)
 }
 
-// An answer's line at a place; the next place. Replays call it where there is room.
-pub fn put_line(a: Answer, out: &mut [u8], k: usize) -> usize
-    requires { ⌜ k + lineRoom ≤ length (now out) ⌝ }
-    ensures { λ r. ⌜ Puts lineRoom k (lineOf a) (now (out .entry)) r (now (out .exit)) ⌝ }
+// A number as far above RAISE as it is above 0, which has no sign.
+fn raised(z: i64) -> u64
+    requires { ⌜ Spoken z ⌝ }
+    ensures { λ r. ⌜ pos r ≡ z +ℤ pos raise ⌝ }
 {
-    match a {
-        Answer::Asleep => put(b"asleep\n", out, k),
-        Answer::Count(n) => put_count(n, out, k),
-        Answer::Refused(x) => {
-            let e = x.errno;
-            let n = e.number();
-            put_refusal(n, out, k)
-        }
-        Answer::Waiting(_) => k,
+    (z + RAISE as i64) as u64
+}
+
+// The line of a number that a host gets, at a place; the next place. Replays call it where there is room.
+pub fn put_number(z: i64, out: &mut [u8], k: usize) -> usize
+    requires { ⌜ (k + lineRoom ≤ length (now out)) × Spoken z ⌝ }
+    ensures { λ r. ⌜ Puts lineRoom k (hostLine z) (now (out .entry)) r (now (out .exit)) ⌝ }
+{
+    let u = raised(z);
+    if u < RAISE {
+        let n = RAISE - u;
+        return put_refusal(n as u32, out, k);
     }
+    let n = u - RAISE;
+    if n == ASLEEP {
+        return put(b"asleep\n", out, k);
+    }
+    put_count(n as u32, out, k)
 }

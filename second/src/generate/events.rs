@@ -171,13 +171,18 @@ fn flag(rng: &mut Rng) -> u8 {
     }
 }
 
+/// Whether a caller names a thread, and that one sleeps.
+pub fn sleeps(state: &State, who: (u8, u8)) -> bool {
+    let (process, index) = (who.0 as usize, who.1 as usize);
+    let inside = process < PROCESSES && index < THREADS_PER_PROCESS;
+    inside && state.threads[THREADS_PER_PROCESS * process + index].waiting
+}
+
 /// A caller that can call: a running thread, if a few tries find one.
 fn caller(rng: &mut Rng, state: &State) -> (u8, u8) {
     let mut who = (process(rng), index(rng));
     for attempt in 0..6 {
-        let number = THREADS_PER_PROCESS * who.0 as usize + who.1 as usize;
-        let inside = (who.0 as usize) < PROCESSES && (who.1 as usize) < THREADS_PER_PROCESS;
-        if !inside || !state.threads[number].waiting {
+        if !sleeps(state, who) {
             return who;
         }
         // Others of the same process first, then anyone.

@@ -1,26 +1,77 @@
 //! Logs, whole and damaged.
 
+use std::io::{self, Write};
+
 use super::events;
-use crate::log::{self, LONGEST, LONGEST_LOG};
+use crate::log::{self, LONGEST};
 use crate::model::{self, Event, State, WORDS};
+use crate::replay::PIECE;
 use crate::rng::Rng;
 use crate::shorthand as s;
 
-/// A whole log of `count` events. A query and a flag above 1 have no record,
-/// so these are drawn again.
+/// A whole log of `count` events.
 pub fn whole(rng: &mut Rng, count: u64) -> Vec<u8> {
-    let mut state = State::fresh();
-    let mut words = vec![0; WORDS];
+    let mut history = History::fresh();
     let mut bytes = Vec::new();
-    let mut written = 0;
-    while written < count {
-        let event = events::next(rng, &state, &words);
-        if append(&event, &mut bytes) {
-            model::step(&mut state, &mut words, &event);
-            written += 1;
-        }
+    for _ in 0..count {
+        history.log_next(rng, &mut bytes, |_, _, _| true);
     }
     bytes
+}
+
+/// Writes a whole log as it is made: the records that begin before byte
+/// `length`.
+pub fn write_long(rng: &mut Rng, length: u64, out: &mut impl Write) -> io::Result<()> {
+    let mut history = History::fresh();
+    let mut record = Vec::new();
+    let mut written = 0;
+    while written < length {
+        record.clear();
+        history.log_next(rng, &mut record, keeps_busy);
+        out.write_all(&record)?;
+        written += record.len() as u64;
+    }
+    Ok(())
+}
+
+/// What a long log would otherwise run into: a clock at its end, where no timed
+/// wait sleeps any more, and sleepers that call, since most threads sleep.
+fn keeps_busy(rng: &mut Rng, state: &State, event: &Event) -> bool {
+    match *event {
+        Event::Clock { time } => time <= state.clock.saturating_add(1000),
+        Event::Call(call) => rng.percent(10) || !events::sleeps(state, (call.process, call.index)),
+        _ => true,
+    }
+}
+
+/// The tables and words that a log in the making has come to.
+struct History {
+    state: State,
+    words: Vec<u32>,
+}
+
+impl History {
+    fn fresh() -> History {
+        History { state: State::fresh(), words: vec![0; WORDS] }
+    }
+
+    /// Draws the next event and adds its record. A query and a flag above 1
+    /// have no record; these, and what isn't wanted on these tables, are drawn
+    /// again.
+    fn log_next(
+        &mut self,
+        rng: &mut Rng,
+        bytes: &mut Vec<u8>,
+        wanted: impl Fn(&mut Rng, &State, &Event) -> bool,
+    ) {
+        loop {
+            let event = events::next(rng, &self.state, &self.words);
+            if wanted(rng, &self.state, &event) && append(&event, bytes) {
+                model::step_sound(&mut self.state, &mut self.words, &event);
+                return;
+            }
+        }
+    }
 }
 
 fn append(event: &Event, bytes: &mut Vec<u8>) -> bool {
@@ -32,10 +83,10 @@ fn append(event: &Event, bytes: &mut Vec<u8>) -> bool {
     length > 0
 }
 
-/// A log with one damage: cut somewhere, a bad kind or a bad flag somewhere,
-/// any byte changed, or junk at its end.
-pub fn damaged(rng: &mut Rng) -> Vec<u8> {
-    let count = rng.below(30);
+/// A log of fewer than `limit` events with one damage: cut somewhere, a bad kind
+/// or a bad flag somewhere, any byte changed, or junk at its end.
+pub fn damaged(rng: &mut Rng, limit: u64) -> Vec<u8> {
+    let count = rng.below(limit);
     let mut bytes = whole(rng, count);
     match rng.below(6) {
         0 => {
@@ -107,8 +158,8 @@ fn of(events: &[Event]) -> Vec<u8> {
 }
 
 /// The logs that a replay is tried on: every refusal at the first record and
-/// at a later one, cuts at every byte, both sides of the longest log, and
-/// random logs, whole and damaged.
+/// at a later one, cuts at every byte, logs around the end of a replay's first
+/// piece, and random logs, whole and damaged.
 pub fn edges() -> Vec<Vec<u8>> {
     let wait = s::wait_for((0, 1), 8, 5, 7);
     let records = [wait, s::store(0, 8, 5), s::clock(9), s::interrupt((0, 1))];
@@ -125,22 +176,56 @@ pub fn edges() -> Vec<Vec<u8>> {
             logs.push([&before[..], &[kind; LONGEST]].concat());
         }
         for flag in [2, 128, 255] {
-            let mut record = of(&[wait]);
-            record[15] = flag;
+            let record = flagged(flag);
             logs.push([&before[..], &record].concat());
             logs.push([&before[..], &record[..31]].concat());
             logs.push([&before[..], &record, &before].concat());
         }
     }
-    let longest = of(&[wait]).repeat(LONGEST_LOG / LONGEST);
-    for length in [LONGEST_LOG - 1, LONGEST_LOG] {
-        logs.push(longest[..length].to_vec());
-    }
-    logs.push([&longest[..], &[1]].concat());
-    logs.push(longest.repeat(2));
-    for seed in 0..20 {
-        logs.push(whole(&mut Rng::new(seed), 1000));
-    }
-    logs.extend((0..500).map(|seed| damaged(&mut Rng::new(seed))));
+    logs.extend(around_a_piece());
+    logs.extend((0..20).map(|seed| whole(&mut Rng::new(seed), 200)));
+    // Few events, since scripts of cut logs cut all of these at every byte.
+    logs.extend((0..500).map(|seed| damaged(&mut Rng::new(seed), 12)));
     logs
+}
+
+/// A wait with any flag byte.
+fn flagged(flag: u8) -> Vec<u8> {
+    let mut record = of(&[s::wait_for((0, 1), 8, 5, 7)]);
+    record[15] = flag;
+    record
+}
+
+/// Logs that end where the first piece of a replay does, a byte before it and a
+/// byte after it; a call across that place, whole and cut by the end of the
+/// log; and a bad kind right behind it.
+fn around_a_piece() -> Vec<Vec<u8>> {
+    let call = flagged(1);
+    let after = of(&[s::store(0, 4, 7), s::wake((0, 2), 8, 1)]);
+    vec![
+        filler(PIECE - 1),
+        filler(PIECE),
+        filler(PIECE + 1),
+        [&filler(PIECE - 13)[..], &call, &after].concat(),
+        [&filler(PIECE - 20)[..], &call[..31]].concat(),
+        [&filler(PIECE)[..], &[5], &after].concat(),
+    ]
+}
+
+/// A whole log of just so many bytes: a random one, and at its end stores of 10
+/// bytes and interrupts of 3, which fit any length.
+fn filler(length: usize) -> Vec<u8> {
+    let mut rng = Rng::new(length as u64);
+    let mut history = History::fresh();
+    let mut bytes = Vec::new();
+    while length - bytes.len() >= 2 * LONGEST {
+        history.log_next(&mut rng, &mut bytes, |_, _, _| true);
+    }
+    while (length - bytes.len()) % 3 != 0 {
+        append(&s::store(0, 8, 5), &mut bytes);
+    }
+    while bytes.len() < length {
+        append(&s::interrupt((0, 1)), &mut bytes);
+    }
+    bytes
 }

@@ -2,10 +2,10 @@
 //! each command does.
 
 use super::{
-    check_lent, thread_number, word_number, Answer, Call, Refusal, State, CLOCK_BIT, CMP_REQUEUE,
-    EAGAIN, EBUSY, EFAULT, ENOMEM, ENOSYS, ESRCH, ETIMEDOUT, FIRST_BAD_ADDRESS, FIRST_CAP,
-    MASK_ZERO, PRIVATE_BIT, REQUEUE, SAME_ADDRESS, SECOND_CAP, THREADS, UADDR2_NOT_ALIGNED,
-    UADDR_NOT_ALIGNED, WAIT, WAIT_BITSET, WAKE, WAKE_BITSET, WAKE_OP, WOKEN,
+    thread_number, word_number, Answer, Call, Refusal, State, CLOCK_BIT, CMP_REQUEUE, EAGAIN,
+    EBUSY, EFAULT, ENOMEM, ENOSYS, ESRCH, ETIMEDOUT, FIRST_BAD_ADDRESS, FIRST_CAP, MASK_ZERO,
+    PRIVATE_BIT, REQUEUE, SAME_ADDRESS, SECOND_CAP, THREADS, UADDR2_NOT_ALIGNED, UADDR_NOT_ALIGNED,
+    WAIT, WAIT_BITSET, WAKE, WAKE_BITSET, WAKE_OP, WOKEN,
 };
 
 /// The highest cap that a wake may carry.
@@ -25,9 +25,8 @@ enum Command {
 }
 use Command::*;
 
-/// Answers one call. Each line is one row of the table of answers.
+/// Answers one call: the rows of the table of answers after -6 and -9.
 pub fn call(state: &mut State, words: &mut [u32], call: &Call) -> Result<Answer, Refusal> {
-    check_lent(state, words)?; // -6, -9
     let caller = thread_number(call.process, call.index).ok_or(ESRCH)?;
     if state.threads[caller].waiting {
         return Err(EBUSY.into());

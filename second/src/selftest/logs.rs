@@ -1,6 +1,6 @@
-//! The log: refusals in order, round trips, replays.
+//! The log: refusals in order, round trips, damages.
 
-use super::Checks;
+use super::{replayed, Checks};
 use crate::generate::{events, logs};
 use crate::log::{self, Cursor, Read};
 use crate::model::{Call, Event, State, WORDS};
@@ -11,7 +11,6 @@ pub fn run(checks: &mut Checks) {
     reading(checks);
     writing(checks);
     round_trips(checks);
-    replays(checks);
     damages(checks);
 }
 
@@ -20,11 +19,11 @@ fn read(bytes: &[u8]) -> (Read, usize) {
     (cursor.read(), cursor.place)
 }
 
-fn flagged(flag: u8) -> Event {
+pub fn flagged(flag: u8) -> Event {
     Event::Call(Call { flag, ..Call::default() })
 }
 
-fn record(event: &Event) -> Vec<u8> {
+pub fn record(event: &Event) -> Vec<u8> {
     log::encode(event).map_or(Vec::new(), |(bytes, length)| bytes[..length].to_vec())
 }
 
@@ -91,23 +90,11 @@ fn round_trips(checks: &mut Checks) {
     checks.holds("read, written", copy == bytes);
 }
 
-fn replays(checks: &mut Checks) {
-    checks.equal("empty log", log::replay(&[]), String::new());
-    checks.equal("bad kind", log::replay(&[0]), "-71\n".into());
-    checks.equal("cut", log::replay(&[4, 0, 0, 2]), "0\n-61\n".into());
-    let long = vec![4; 65537];
-    checks.equal("too long", log::replay(&long), "-27\n".into());
-    // 65,536 bytes are not too long: 21,845 whole interrupts and a cut one.
-    let text = log::replay(&long[..65536]);
-    checks.equal("just not too long", text.lines().count(), 21846);
-    checks.holds("just not too long", text.ends_with("0\n-61\n"));
-}
-
 /// A damaged log prints one line for each good record and then its refusal.
 fn damages(checks: &mut Checks) {
     let mut ends = [0; 3];
     for seed in 0..300 {
-        let bytes = logs::damaged(&mut Rng::new(seed));
+        let bytes = logs::damaged(&mut Rng::new(seed), 30);
         let mut cursor = Cursor { bytes: &bytes, place: 0 };
         let mut lines = 0;
         let last = loop {
@@ -116,7 +103,7 @@ fn damages(checks: &mut Checks) {
                 last => break last,
             }
         };
-        let text = log::replay(&bytes);
+        let text = replayed(&bytes);
         let refusal = match last {
             Read::Refused(number) => number,
             _ => 0,

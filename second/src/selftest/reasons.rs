@@ -1,8 +1,7 @@
 //! Request (i) of document 02: the reason beside each number.
 
-use super::{Checks, Display};
+use super::{replayed, Checks, Display};
 use crate::layout;
-use crate::log;
 use crate::model::{Call, Event, WORDS};
 use crate::shorthand as s;
 
@@ -242,5 +241,5 @@ fn other_events(checks: &mut Checks) {
 /// A replay prints the number alone.
 fn printing(checks: &mut Checks) {
     let log = [2, 0, 1, 0, 0, 0, 5, 0, 0, 0];
-    checks.equal("replay", log::replay(&log), "-22\n".into());
+    checks.equal("replay", replayed(&log), "-22\n".into());
 }

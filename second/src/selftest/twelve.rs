@@ -1,6 +1,6 @@
 //! P1 to P12, P8 as request (ii) amends it, and the whole case of the log.
 
-use super::{Checks, Display};
+use super::{replayed, Checks, Display};
 use crate::log;
 use crate::model::{Call, Event, TIMED_OUT, WOKEN};
 use crate::shorthand as s;
@@ -98,7 +98,7 @@ fn whole_case(checks: &mut Checks) {
         checks.equal("whole case", log::write(&event, &mut room), 32);
         bytes.extend(room);
     }
-    checks.equal("whole case", log::replay(&bytes), "0\nasleep\n1\n".into());
+    checks.equal("whole case", replayed(&bytes), "0\nasleep\n1\n".into());
     let mut room = [0; 10];
     checks.equal("store record", log::write(&s::store(0, 8, 5), &mut room), 10);
     checks.equal("store record", room.as_slice(), &bytes[..10]);

@@ -6,23 +6,11 @@ use lib.IntN.{pos, negℤ, _-ℤ_, +ℤ-idl}
 use mir.Syntax.{w32}
 use mir.Val.{SFits, toZ}
 use mir.Facts.{toZ-ofZ, toZ-pos}
-use Rattle.rules.specs.declared.answer.Errno.{Errno}
-use Rattle.rules.specs.declared.answer.Errno.the-variants.{ENXIO, EBADF, ESRCH, EBUSY, ENOSYS, EINVAL, EFAULT, EAGAIN, ETIMEDOUT}
+use Rattle.rules.specs.declared.answer.Errno.the-variants.{ETIMEDOUT}
 use Rattle.rules.specs.Answers.{errnoNumber}
+use Rattle.rules.proofs.Numbers.{errno-small}
 use Rattle.vradomil.proofs.answer.refusal.Statement.{statement}
 use Rattle.vradomil.proofs.answer.refusal.Tie as tie
-
--- no error number is above ETIMEDOUT's
-errno-small : (x : Errno) → errnoNumber x ≤ errnoNumber ETIMEDOUT
-errno-small ENXIO = omega arith
-errno-small EBADF = omega arith
-errno-small ESRCH = omega arith
-errno-small EBUSY = omega arith
-errno-small ENOSYS = omega arith
-errno-small EINVAL = omega arith
-errno-small EFAULT = omega arith
-errno-small EAGAIN = omega arith
-errno-small ETIMEDOUT = omega arith
 
 negated : (n : ℕ) → n ≤ errnoNumber ETIMEDOUT → pos 0 -ℤ toZ w32 n ≡ negℤ (pos n)
 negated n few = ap (pos 0 -ℤ_) (toZ-pos w32 {n = n} (omega arith)) ∙ +ℤ-idl (negℤ (pos n))
@@ -32,7 +20,7 @@ negated-fits zero few = record { sfits = omega arith }
 negated-fits (suc n) few = record { sfits = omega arith }
 
 small : (c : tie.After-number) → c .number .result ≤ errnoNumber ETIMEDOUT
-small c = rw (c .number .ensures) (errno-small (c .before .args .x))
+small c = rw (c .number .ensures) (errno-small (c .before .args .x) .1)
 
 number-requires : tie.Need-number-requires
 number-requires c κs = search needs
