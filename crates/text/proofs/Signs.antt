@@ -1,17 +1,15 @@
 -- A number with a sign, moved up by more than its bits: the sum has none, and tells what the number was.
 use mathlib.Core.Path.{_≡_, refl, sym, ap, _∙_}
 use mathlib.Core.Bool.{cond}
-use mathlib.Core.List.{List}
-use Prim.Native.Nat.{ℕ, suc, _+_, _-_, _*_, _^_, _<_, _≤_}
+use Prim.Native.Nat.{ℕ, suc, _+_, _-_, _*_, _<_, _≤_}
 use native.Mathlib.Omega.{arith}
-use lib.IntN.{ℤ, pos, negsuc, natAbs, _+ℤ_, subℕ}
-use lib.Signed.{mag, nonNeg}
+use lib.IntN.{ℤ, pos, negsuc, natAbs, _+ℤ_}
+use lib.Signed.{nonNeg}
 use lib.Dec.{T, eqb}
 use borrow.Author.Tests.{le-ltb}
 use mir.Syntax.{w64}
 use mir.Val.{Fits, SFits, toZ, ofZ}
 use mir.Facts.{toZ-ofZ}
-use Rattle.lists.proofs.Tests.{never}
 use Rattle.rules.specs.Answers.{asleepNumber}
 use Rattle.text.specs.Text.{asleepLine, countLine, refusalLine, hostLine, raise, Spoken}
 
