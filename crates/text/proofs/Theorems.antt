@@ -1,11 +1,12 @@
 -- What is proved of the lines. Each theorem is stated here whole; specs/Text.antt has the words that the statements use. That the code writes
 -- these lines is what put_line and put_refusal ensure, in the words of Puts.
 use mathlib.Core.Path.{_≡_, refl, ap, sym, _∙_, subst}
+use mathlib.Core.Logic.{_↔_}
 use mathlib.Core.Bool.{true}
 use mathlib.Core.List.{List, [], _∷_, _++_, map, append-assoc}
 use Prim.Native.Nat.{ℕ, _+_, _-_, _^_, _≤_, _<_}
 use native.Mathlib.Omega.{arith}
-use lib.IntN.{ℤ, pos, negℤ}
+use lib.IntN.{ℤ, pos, negsuc, negℤ, natAbs}
 use lib.ListN.{length, take, drop}
 use lib.Seq.{sets-eq}
 use Rattle.io.specs.Digits.{Fewest}
@@ -17,7 +18,7 @@ use Rattle.rules.specs.declared.answer.Reason.the-variants.{FirstCap}
 use Rattle.rules.specs.declared.answer.Answer.{Answer}
 use Rattle.rules.specs.declared.answer.Answer.the-variants.{Asleep, Count, Refused, Waiting}
 use Rattle.rules.specs.Answers.{_because_, plain, errnoNumber, answerNumbers}
-use Rattle.text.specs.Text.{placesFor, mostDigits, decimal, valueFrom, isDigit, countLine, refusalLine, numberLine, lineOf, Puts}
+use Rattle.text.specs.Text.{placesFor, mostDigits, decimal, valueFrom, isDigit, countLine, refusalLine, numberLine, lineOf, Spoken, Puts}
 use Rattle.text.proofs.Decimal.{places-fewest, length-digits, digits-value, digits-digits}
 
 -- The text of a number: digits, which stand for it, and none too many.
@@ -61,6 +62,11 @@ pub the-lines : map lineOf (Asleep ∷ Count 0 ∷ Count 9 ∷ Count 10 ∷ Coun
     ∷ []
 unfolding lineOf refusalLine countLine decimal
 the-lines = refl
+
+-- The numbers that have a line are those of at most 32 bits beside their sign.
+pub spoken-exactly : (z : ℤ) → Spoken z ↔ (natAbs z < 2 ^ 32)
+spoken-exactly (pos n) = ((λ h. h), (λ h. h))
+spoken-exactly (negsuc n) = ((λ h. h), (λ h. h))
 
 -- A text that is put at a place stands there, and all before it and behind it is as it was.
 pub text-stands : (room k : ℕ) (text before : List ℕ) (r : ℕ) (after : List ℕ) → Puts room k text before r after → k + room ≤ length before
