@@ -1,12 +1,12 @@
 -- What the functions on the arrival list compute.
 use mathlib.Core.Path.{_≡_}
-use mathlib.Core.Bool.{Bool, false, _&&_}
-use mathlib.Core.List.{List}
-use Prim.Native.Nat.{ℕ, _≤_, _<_}
-use lib.ListN.{length, take, getD}
+use mathlib.Core.Bool.{Bool, true, false, cond, _&&_}
+use mathlib.Core.List.{List, [], _∷_}
+use Prim.Native.Nat.{ℕ, zero, suc, _+_, _-_, _≤_, _<_}
+use lib.ListN.{length, take, drop, getD}
 use lib.Dec.{ltb}
 use Rattle.lists.specs.Lists.{filter, all, elem, distinct, padTo, leftOver}
-use Rattle.arrivals.specs.declared.Parts.{Parts}
+use Rattle.arrivals.specs.declared.Found.{Found}
 use Rattle.arrivals.specs.Sizes.{threads, noEntry}
 
 -- the first n entries are thread numbers
@@ -22,14 +22,36 @@ flagged flags t = getD flags t false
 abbrev pub Flags : List Bool → (ℕ → Bool) → Type 0
 Flags flags f = (t : ℕ) → t < threads → flagged flags t ≡ f t
 
--- the first cap entries that pass, and the others, each as a list is stored
-unfoldable pub splitOf : (ℕ → Bool) → ℕ → List ℕ → Parts
-splitOf f cap l =
+-- "go along the list, look at no record twice, and stop at the last cap reached": the entries that a search looks at that may take n,
+-- in their order. Each is looked at once, and the one that passes as the n-th is the last.
+abbrev pub lookedAt : (ℕ → Bool) → ℕ → List ℕ → List ℕ
+lookedAt f n [] = []
+lookedAt f zero (t ∷ l) = []
+lookedAt f (suc n) (t ∷ l) = t ∷ cond (f t) (lookedAt f n l) (lookedAt f (suc n) l)
+
+-- "It returns its looks": how many these are. That they are "the place, from 1, of the entry that reached the last cap, 0 if the caps are
+-- 0, else the list's count": proofs/Theorems.antt.
+abbrev pub looks : (ℕ → Bool) → ℕ → List ℕ → ℕ
+looks f n l = length (lookedAt f n l)
+
+-- "the place, from 1, of the entry that reached the last cap": k is the place of the entry that passes as the n-th
+pub record ReachedAt (f : ℕ → Bool) (n : ℕ) (l : List ℕ) (k : ℕ) : Type 0 where
+  pub from-1 : 1 ≤ k
+  pub inside : k ≤ length l
+  pub passes : f (getD l (k - 1) 0) ≡ true
+  pub as-the-last : length (filter f (take k l)) ≡ n
+
+-- "one search, for one word with its cap or caps": the first cap entries that pass are released, the next cap2 moved, the others left;
+-- each list as it is stored, the moved behind the released
+unfoldable pub foundOf : (ℕ → Bool) → ℕ → ℕ → List ℕ → Found
+foundOf f cap cap2 l =
     record {
-      kept = padTo threads noEntry (leftOver f cap l);
-      count = length (leftOver f cap l);
-      taken = padTo threads noEntry (take cap (filter f l));
-      n = length (take cap (filter f l));
+      left = padTo threads noEntry (leftOver f (cap + cap2) l);
+      count = length (leftOver f (cap + cap2) l);
+      taken = padTo threads noEntry (take (cap + cap2) (filter f l));
+      released = length (take cap (filter f l));
+      moved = length (take cap2 (drop cap (filter f l)));
+      looks = looks f (cap + cap2) l;
     }
 
 -- which threads a list names, and whether they are thread numbers and all different

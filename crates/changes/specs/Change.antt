@@ -1,14 +1,19 @@
 -- What a change of the tables does to their bytes.
 use mathlib.Core.Path.{_≡_}
-use mathlib.Core.Bool.{true}
+use mathlib.Core.Bool.{Bool, true}
 use mathlib.Core.List.{List}
 use Prim.Native.Nat.{ℕ, _<_}
 use lib.ListN.{length, set}
 use Rattle.tables.specs.declared.State.{State}
 use Rattle.tables.specs.declared.Thread.{Thread}
 use Rattle.tables.specs.declared.Taken.{Taken}
+use Rattle.tables.specs.declared.Requeued.{Requeued}
+use Rattle.tables.specs.declared.LastAnswer.{LastAnswer}
+use Rattle.arrivals.specs.declared.Found.{Found}
+use Rattle.changes.specs.declared.Counts.{Counts}
 use Rattle.tables.specs.Sizes.{threads, wordLimit, timeLimit}
-use Rattle.tables.specs.Tables.{threadOf, withThreads, tablesOk}
+use Rattle.tables.specs.Tables.{threadOf, arrivals, withThreads, tablesOk}
+use Rattle.tables.specs.Steps.{foundOf, endFirst}
 use Rattle.layout.specs.Layout.{tablesBytes}
 
 -- "64 thread records and one arrival list"
@@ -42,6 +47,20 @@ pub record TakenBytes (t : Taken) (n : ℕ) (after : List ℕ) : Type 0 where
 -- Bytes of tables that keep the rules become those that the change leaves.
 abbrev pub WritesTaken : (State → Taken) → List ℕ → ℕ → List ℕ → Type 0
 WritesTaken f b n after = (s : State) → Stands s b → TakenBytes (f s) n after
+
+-- the same, of a search that has been made: by any test and cap by which it found what it found
+abbrev pub WritesFound : Found → LastAnswer → List ℕ → ℕ → List ℕ → Type 0
+WritesFound found a b n after =
+    (f : ℕ → Bool) (cap : ℕ) (s : State) → Stands s b → found ≡ foundOf f cap 0 (arrivals s) → TakenBytes (endFirst a f cap s) n after
+
+-- what a requeue hands back on bytes: how many it released and moved, and the bytes of the tables that it leaves
+pub record RequeuedBytes (t : Requeued) (n : Counts) (after : List ℕ) : Type 0 where
+  pub released : n .released ≡ t .released
+  pub moved : n .moved ≡ t .moved
+  pub bytes : after ≡ tablesBytes (t .state)
+
+abbrev pub WritesRequeued : (State → Requeued) → List ℕ → Counts → List ℕ → Type 0
+WritesRequeued f b n after = (s : State) → Stands s b → RequeuedBytes (f s) n after
 
 -- each number fits its field, as in all tables that code holds
 pub record FitsThread (r : Thread) : Type 0 where

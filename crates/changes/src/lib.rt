@@ -1,19 +1,20 @@
 // Changes: the changes of the tables, on their bytes where they lie. It stands on layout.
 ghost use mathlib.Core.Path.{_≡_};
 ghost use mathlib.Core.Bool.{false};
-ghost use Prim.Native.Nat.{_<_};
-ghost use lib.ListN.{length, take};
+ghost use Prim.Native.Nat.{_+_, _<_};
+ghost use lib.ListN.{length, take, drop};
 ghost use Rattle.lists.specs.Lists.{bit};
 ghost use Rattle.tables.specs.declared.Change.the-variants.{End, MoveTo};
 ghost use Rattle.tables.specs.Sizes.{threads};
 ghost use Rattle.tables.specs.Tables.{threadOf, change, withThreads, withSleep, ended, asleepAt, fallAsleep};
-ghost use Rattle.tables.specs.Steps.{Numbers, changedBy, flagged, endFirst, moveFirst};
+ghost use Rattle.tables.specs.Steps.{Numbers, changedBy, flagged, endFirst, requeueFirst};
 ghost use Rattle.layout.specs.Layout.{lastByte, tablesSize, stateAt, tablesBytes};
 ghost use Rattle.layout.specs.Check.{Held};
-ghost use Rattle.changes.specs.Change.{atThread, Writes, Standing, WritesTaken};
+ghost use Rattle.changes.specs.Change.{atThread, Writes, Standing, WritesFound, WritesTaken, WritesRequeued};
+use arrivals::Found;
 use arrivals::index_of;
 use arrivals::joined;
-use arrivals::split;
+use arrivals::search;
 use layout::BITSET_AT;
 use layout::COUNT_AT;
 use layout::DEADLINE_AT;
@@ -107,17 +108,29 @@ fn end_all(b: &mut [u8], ts: [u8; THREADS], n: usize, last: LastAnswer)
     }
 }
 
-// The first n threads of ts sleep at the address.
-fn move_all(b: &mut [u8], ts: [u8; THREADS], n: usize, uaddr: u32)
-    requires { ⌜ (length (now b) ≡ tablesSize) × Numbers ts n ⌝ }
-    ensures { λ _. ⌜ Writes (λ s. withThreads (change (changedBy (MoveTo uaddr)) (take n ts) (s .threads)) s) (now (b .entry)) (now (b .exit)) ⌝ }
+// n threads of ts, from a place on, sleep at the address.
+fn move_all(b: &mut [u8], ts: [u8; THREADS], from: usize, n: usize, uaddr: u32)
+    requires { ⌜ (length (now b) ≡ tablesSize) × Numbers ts (from + n) ⌝ }
+    ensures { λ _. ⌜ Writes (λ s. withThreads (change (changedBy (MoveTo uaddr)) (take n (drop from ts)) (s .threads)) s) (now (b .entry)) (now (b .exit)) ⌝ }
 {
     let mut i: usize = 0;
     while i < n {
-        let x = index_of(ts[i]);
+        let x = index_of(ts[from + i]);
         put_u32(b, UADDR_AT + WORD_SIZE * x, uaddr);
         i += 1;
     }
+}
+
+// Whom a search released runs, with the answer, and the list is what it left; how many. It is called with what a search found.
+pub fn end_found(b: &mut [u8], found: Found, last: LastAnswer) -> u32
+    requires { ⌜ (length (now b) ≡ tablesSize) × Numbers (found .taken) (found .released) ⌝ }
+    ensures { λ r. ⌜ WritesFound found last (now (b .entry)) r (now (b .exit)) ⌝ }
+{
+    let taken = found.taken;
+    end_all(b, taken, found.released, last);
+    let left = found.left;
+    put_list(b, left, found.count);
+    found.released as u32
 }
 
 // The first cap sleepers whose flag is set end their sleep with the answer; how many. This and the functions below are called on
@@ -128,28 +141,43 @@ pub fn end_first(b: &mut [u8], flags: [bool; THREADS], cap: usize, last: LastAns
 {
     let list = list_at(b);
     let count = u64_at(b, COUNT_AT) as usize;
-    let parts = split(list, count, flags, cap);
-    let taken = parts.taken;
-    end_all(b, taken, parts.n, last);
-    let kept = parts.kept;
-    put_list(b, kept, parts.count);
-    parts.n as u32
+    let found = search(list, count, flags, cap, 0);
+    end_found(b, found, last)
 }
 
-// The first cap sleepers whose flag is set move to the address, and to the end of the list; how many.
-pub fn move_first(b: &mut [u8], flags: [bool; THREADS], cap: usize, uaddr: u32) -> u32
+// How many sleepers a requeue released, and how many it moved.
+pub struct Counts {
+    pub released: u32,
+    pub moved: u32,
+}
+
+// One search for a requeue: the first cap sleepers whose flag is set are released, the next cap2 move to the address and to the end of
+// the list.
+pub fn requeue_first(
+    b: &mut [u8],
+    flags: [bool; THREADS],
+    cap: u32,
+    cap2: u32,
+    uaddr: u32,
+) -> Counts
     requires { ⌜ Standing (now b) ⌝ }
-    ensures { λ r. ⌜ WritesTaken (moveFirst uaddr (flagged flags) cap) (now (b .entry)) r (now (b .exit)) ⌝ }
+    ensures { λ r. ⌜ WritesRequeued (requeueFirst uaddr (flagged flags) cap cap2) (now (b .entry)) r (now (b .exit)) ⌝ }
 {
     let list = list_at(b);
     let count = u64_at(b, COUNT_AT) as usize;
-    let parts = split(list, count, flags, cap);
-    let taken = parts.taken;
-    move_all(b, taken, parts.n, uaddr);
-    let kept = parts.kept;
-    let all = joined(kept, parts.count, taken, parts.n);
-    put_list(b, all, count);
-    parts.n as u32
+    let found = search(list, count, flags, cap as usize, cap2 as usize);
+    let taken = found.taken;
+    end_all(b, taken, found.released, LastAnswer::Woken);
+    move_all(b, taken, found.released, found.moved, uaddr);
+    let left = found.left;
+    let all = joined(left, found.count, taken, found.released, found.moved);
+    put_list(b, all, found.count + found.moved);
+    let released = found.released as u32;
+    let moved = found.moved as u32;
+    Counts {
+        released: released,
+        moved: moved,
+    }
 }
 
 // A running thread sleeps, and joins the end of the list, where there is room, since it is not there yet. It is called for a caller that

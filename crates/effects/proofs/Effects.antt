@@ -1,15 +1,20 @@
 -- What the tables' functions compute is what the rules say of each command.
 use mathlib.Core.Path.{_≡_, refl, sym, ap, _∙_}
 use mathlib.Core.Bool.{Bool, true, false, not, cond, _&&_, _||_}
-use mathlib.Core.List.{List}
+use mathlib.Core.List.{List, _++_}
 use Prim.Native.Nat.{ℕ, _+_, _≤_}
-use lib.ListN.{length, take, drop}
+use native.Mathlib.Omega.{arith}
+use lib.ListN.{length, take, drop, length-append}
+use lib.Seq.{take-add}
+use lib.Dec.{eqb}
+use borrow.Author.Tests.{eqb-true}
 use Rattle.lists.specs.Lists.{filter, elem, without}
 use Rattle.lists.proofs.Tests.{cases, clash}
 use Rattle.lists.proofs.Filter.{filter-comm}
 use Rattle.lists.proofs.LeftOver.{without-taken, filter-leftOver}
 use Rattle.tables.specs.declared.State.{State}
 use Rattle.tables.specs.declared.Taken.{Taken}
+use Rattle.tables.specs.declared.Requeued.{Requeued}
 use Rattle.tables.specs.declared.LastAnswer.{LastAnswer}
 use Rattle.tables.specs.declared.LastAnswer.the-variants.{Woken}
 use Rattle.rules.specs.declared.event.Command.{Command}
@@ -19,7 +24,7 @@ use Rattle.rules.specs.declared.event.Uses.{Uses}
 use Rattle.rules.specs.declared.answer.Answer.the-variants.{Count}
 use Rattle.tables.specs.Sizes.{threads}
 use Rattle.tables.specs.Tables.{World, threadOf, arrivals, sharesBit, sleepsAt, wordAt, endSleeps, writeWord, world}
-use Rattle.tables.specs.Steps.{Flags, flagged, endFirst, moveFirst}
+use Rattle.tables.specs.Steps.{Flags, flagged, endFirst, requeueFirst}
 use Rattle.rules.specs.Answers.{answered}
 use Rattle.rules.specs.Commands.{commandOf, isUnknown, uses}
 use Rattle.rules.specs.WakeOp.{compares}
@@ -40,9 +45,11 @@ pub end-few : (a : LastAnswer) (f : ℕ → Bool) (cap : ℕ) (s : State) → So
 unfolding endFirst
 end-few a f cap s g = taken-fit s g f cap
 
-pub move-few : (a : ℕ) (f : ℕ → Bool) (cap : ℕ) (s : State) → Sound s → moveFirst a f cap s .n ≤ threads
-unfolding moveFirst
-move-few a f cap s g = taken-fit s g f cap
+pub requeue-few : (a : ℕ) (f : ℕ → Bool) (cap cap2 : ℕ) (s : State) → Sound s
+    → requeueFirst a f cap cap2 s .released + requeueFirst a f cap cap2 s .moved ≤ threads
+unfolding requeueFirst
+requeue-few a f cap cap2 s g =
+    omega (arith, taken-fit s g f (cap + cap2), ap length (take-add cap cap2 (filter f (arrivals s))), length-append (take cap (filter f (arrivals s))) (take cap2 (drop cap (filter f (arrivals s)))))
 
 -- The flags of the tables' search say who the candidates are, where it was made with what the command uses.
 pub chosen : (c : Call) (a : ℕ) (s : State) → Sound s → (u : Uses) → u ≡ uses (commandOf (c .op)) → (flags : List Bool)
@@ -63,10 +70,12 @@ module _ (k : Command) (c : Call) (s : State) (g : Sound s) (f : ℕ → Bool)
   wakes words = cc (is)
 
   -- who is left at the word
-  left : filter f (arrivals (first .state)) ≡ drop (c .val) (candidates (matches k c) (c .process) (c .uaddr) s)
-  unfolding endFirst
+  pub left : without (released k c s) (candidates (matches k c) (c .process) (c .uaddr) s) ≡ drop (c .val) (candidates (matches k c) (c .process) (c .uaddr) s)
+  unfolding released
   left =
-      ap (filter f) (arrivals-end Woken (take (c .val) (filter f (arrivals s))) s ∙ without-taken f (arrivals s) (c .val) (once s g))
+      ap (λ l. without (take (c .val) l) l) (sym is)
+      ∙ filter-comm (λ t. not (elem t (take (c .val) (filter f (arrivals s))))) f (arrivals s)
+      ∙ ap (filter f) (without-taken f (arrivals s) (c .val) (once s g))
       ∙ filter-leftOver f (arrivals s) (c .val)
       ∙ ap (drop (c .val)) is
 
@@ -74,13 +83,46 @@ module _ (k : Command) (c : Call) (s : State) (g : Sound s) (f : ℕ → Bool)
   unfolding endFirst released
   first-is = cc (is)
 
-  abbrev next : Taken
-  next = moveFirst (c .uaddr2) f (secondCap c) (first .state)
+  abbrev both : Requeued
+  both = requeueFirst (c .uaddr2) f (c .val) (secondCap c) s
 
   pub requeues : (words : List ℕ)
-      → record { answer = Count (first .n + cond (uses k .compare) (next .n) 0); state = next .state } ≡ answered (requeue k c (world s words))
-  unfolding requeue released moved moveFirst
-  requeues words = cc (left, first-is)
+      → record { answer = Count (both .released + cond (uses k .compare) (both .moved) 0); state = both .state } ≡ answered (requeue k c (world s words))
+  unfolding requeue released moved requeueFirst
+  requeues words = cc (is)
+
+or-only : (a b : Bool) → b ≡ true → (a || not b) ≡ true → a ≡ true
+or-only true b e h = refl
+or-only false b e h = sym (ap not e) ∙ h
+
+-- WAKE_OP, where one search serves: the words are one, or the comparison does not hold
+module _ (k : Command) (c : Call) (w : World) (g : Sound (w .state)) (f : ℕ → Bool)
+    (is : filter f (arrivals (w .state)) ≡ candidates (matches k c) (c .process) (c .uaddr) (w .state)) where
+  abbrev true-for : Bool
+  true-for = compares (c .val3) (wordAt w (c .process) (c .uaddr2))
+
+  abbrev single : Taken
+  single = endFirst Woken f (c .val + cond true-for (secondCap c) 0) (w .state)
+
+  next-are : (eqb (c .uaddr) (c .uaddr2) || not true-for) ≡ true
+      → take (cond true-for (secondCap c) 0) (drop (c .val) (candidates (matches k c) (c .process) (c .uaddr) (w .state))) ≡ releasedSecond k c w
+  unfolding releasedSecond
+  next-are one = cases true-for
+      (λ e.
+      let same : c .uaddr ≡ c .uaddr2 = eqb-true (c .uaddr) (c .uaddr2) (or-only (eqb (c .uaddr) (c .uaddr2)) true-for e one) in
+      rw e (ap (take (secondCap c)) (sym (left k c (w .state) g f is)
+      ∙ ap (λ a. without (released k c (w .state)) (candidates (matches k c) (c .process) a (w .state))) same)))
+      (λ e. rw e)
+
+  pub releases-once : (eqb (c .uaddr) (c .uaddr2) || not true-for) ≡ true
+      → record { answer = Count (single .n); state = single .state } ≡ answered (wakeOp k c w)
+  unfolding wakeOp writeWord endFirst released
+  releases-once one =
+      let all : take (c .val + cond true-for (secondCap c) 0) (filter f (arrivals (w .state))) ≡ released k c (w .state) ++ releasedSecond k c w =
+      ap (take (c .val + cond true-for (secondCap c) 0)) is ∙ take-add (c .val) (cond true-for (secondCap c) 0) _ ∙ ap (released k c (w .state) ++_) (next-are one) in
+      let n : length (take (c .val + cond true-for (secondCap c) 0) (filter f (arrivals (w .state)))) ≡ length (released k c (w .state)) + length (releasedSecond k c w) =
+      ap length all ∙ length-append (released k c (w .state)) (releasedSecond k c w) in
+      λ j. record { answer = Count (n j); state = endSleeps Woken (all j) (w .state) }
 
 -- WAKE_OP: who is released at the second word, once those of the first have left
 module _ (k : Command) (c : Call) (w : World) (g : Sound (w .state)) (f h : ℕ → Bool)

@@ -81,27 +81,30 @@ fn requeue(s: State, c: Call) -> Answered
     let u = uses_by(c.op);
     let cap2 = second_cap(c);
     let flags = s.hits(c.process as usize, c.uaddr, !u.mask, c.val3);
-    let released = s.end_first(flags, c.val as usize, LastAnswer::Woken);
-    let rest = released.state;
-    let moved = rest.move_first(flags, cap2 as usize, c.uaddr2);
-    let next = moved.state;
-    let more = only_if(u.compare, moved.n);
-    counted(released.n + more, next)
+    let taken = s.requeue_first(flags, c.val, cap2, c.uaddr2);
+    let next = taken.state;
+    let more = only_if(u.compare, taken.moved);
+    counted(taken.released + more, next)
 }
 
-// The releases of a WAKE_OP, both chosen on the tables as they came, by whether its comparison holds.
+// The releases of a WAKE_OP, by whether its comparison holds. One word is searched once, with both caps; two are searched one after the
+// other, the second only if the comparison holds, for whom it may take on the tables as they came.
 fn release_both(s: State, c: Call, holds: bool) -> Answered
     requires { ⌜ Ready c s ⌝ }
     ensures { λ r. ⌜ ((ws : List ℕ) → compares (c .val3) (wordAt (world s ws) (c .process) (c .uaddr2)) ≡ holds → r ≡ answered (wakeOp (commandOf (c .op)) c (world s ws))) ⌝ }
 {
     let u = uses_by(c.op);
-    let cap2 = second_cap(c);
+    let cap2 = only_if(holds, second_cap(c));
     let first = s.hits(c.process as usize, c.uaddr, !u.mask, c.val3);
+    if (c.uaddr == c.uaddr2) | !holds {
+        let released = s.end_first(first, c.val as usize + cap2 as usize, LastAnswer::Woken);
+        let next = released.state;
+        return counted(released.n, next);
+    }
     let second = s.hits(c.process as usize, c.uaddr2, !u.mask, c.val3);
     let released = s.end_first(first, c.val as usize, LastAnswer::Woken);
     let rest = released.state;
-    let cap = only_if(holds, cap2);
-    let more = rest.end_first(second, cap as usize, LastAnswer::Woken);
+    let more = rest.end_first(second, cap2 as usize, LastAnswer::Woken);
     let next = more.state;
     counted(released.n + more.n, next)
 }

@@ -29,19 +29,22 @@ use Rattle.arrivals.proofs.Flags.{flags-set}
 use Rattle.tables.proofs.Stored.{end-nobody, flagged-listed}
 
 -- the clock: everybody whose deadline has come, since the cap is the whole list
-pub clock-ends : (now : ℕ) (s : State) (ws : List ℕ) → Sound s → (flags : List Bool) → Flags flags (λ t. expired now (threadOf s t))
-    → (taken : Taken) → taken ≡ endFirst TimedOut (flagged flags) threads s
+pub clock-ends : (now : ℕ) (s : State) (ws : List ℕ) → Sound s → (f : ℕ → Bool) → filter f (arrivals s) ≡ expiredSleepers now s
+    → (taken : Taken) → taken ≡ endFirst TimedOut f threads s
     → record { answer = Count (taken .n); state = withClock now (taken .state) }
     ≡ answered (clockEffect now (world s ws))
 unfolding clockEffect endFirst endSleeps
-clock-ends now s ws g flags h taken is =
+clock-ends now s ws g f due taken is =
+    let all : take threads (filter f (arrivals s)) ≡ expiredSleepers now s =
+    take-all threads (filter f (arrivals s)) (omega (arith, length-filter f (arrivals s), arrivals-fit s g)) ∙ due in
     ap (λ (v : Taken). record { answer = Count (v .n); state = withClock now (v .state) })
-    (is ∙ ap (λ l. record { state = endSleeps TimedOut l s; n = length l }) all-of-them)
-  where
-    all-of-them : take threads (filter (flagged flags) (arrivals s)) ≡ expiredSleepers now s
-    all-of-them =
-        take-all threads (filter (flagged flags) (arrivals s)) (omega (arith, length-filter (flagged flags) (arrivals s), arrivals-fit s g))
-        ∙ (unfold expiredSleepers in flagged-listed s g flags (λ t. expired now (threadOf s t)) h)
+    (is ∙ ap (λ l. record { state = endSleeps TimedOut l s; n = length l }) all)
+
+-- flags that say whose deadline has come
+pub due-flagged : (now : ℕ) (s : State) → Sound s → (flags : List Bool) → Flags flags (λ t. expired now (threadOf s t))
+    → filter (flagged flags) (arrivals s) ≡ expiredSleepers now s
+unfolding expiredSleepers
+due-flagged now s g flags h = flagged-listed s g flags (λ t. expired now (threadOf s t)) h
 
 -- an interrupt: the thread, if it is listed
 one-flag : (t : ℕ) → t < threads → Flags (set (replicate threads false) t true) (λ u. eqb u t)

@@ -1,5 +1,4 @@
 pub mod Columns
 pub mod Reading
 pub mod Exact
-pub mod Expiring
 pub mod Checks

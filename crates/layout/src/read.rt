@@ -1,11 +1,12 @@
 // What the bytes of the tables stand for: a record, the list, and the threads that pass a test.
 ghost use mathlib.Core.Path.{_≡_};
-ghost use mathlib.Core.Bool.{_&&_, _||_};
+ghost use mathlib.Core.Bool.{cond, _&&_, _||_};
 ghost use Prim.Native.Nat.{_<_};
 ghost use lib.ListN.{length, take, drop};
+ghost use Rattle.lists.specs.Lists.{bit};
 ghost use Rattle.tables.specs.Sizes.{processes, threads};
-ghost use Rattle.tables.specs.Tables.{threadOf, expired, sharesBit, sleepsAt};
-ghost use Rattle.tables.specs.Steps.{Flags};
+ghost use Rattle.tables.specs.Tables.{threadOf, arrivals, expired, sharesBit, sleepsAt};
+ghost use Rattle.tables.specs.Steps.{Flags, foundOf};
 ghost use Rattle.layout.specs.Layout.{lastOf, threadAt, listAt, tablesSize, stateAt};
 ghost use Rattle.layout.specs.Check.{Held};
 use crate::BITSET_AT;
@@ -18,6 +19,7 @@ use crate::TIMED_AT;
 use crate::UADDR_AT;
 use crate::WAITING_AT;
 use crate::WORD_SIZE;
+use arrivals::Found;
 use arrivals::index_of;
 use numbers::u32_at;
 use numbers::u64_at;
@@ -89,21 +91,48 @@ pub fn hits(b: &[u8], process: usize, uaddr: u32, any: bool, bitset: u32) -> [bo
     flags
 }
 
-// Whose deadline has come, on tables that keep the rules: only listed threads are looked at, since only they have one.
-pub fn expired(b: &[u8], time: u64) -> [bool; THREADS]
+// One number or the other; a leaf, so that the loop below has no branch on what the records hold.
+fn either(test: bool, a: u8, b: u8) -> u8
+    ensures { λ r. ⌜ r ≡ cond test a b ⌝ }
+{
+    if test { a } else { b }
+}
+
+// 1 or 0.
+fn one_if(test: bool) -> usize
+    ensures { λ r. ⌜ r ≡ bit test ⌝ }
+{
+    if test { 1 } else { 0 }
+}
+
+// The sleepers whose deadline has come, on tables that keep the rules, taken from the list in one walk along it.
+pub fn due(b: &[u8], time: u64) -> Found
     requires { ⌜ Held (now b) ⌝ }
-    ensures { λ r. ⌜ Flags r (λ t. expired time (threadOf (stateAt (now (b .entry))) t)) ⌝ }
+    ensures { λ r. ⌜ r ≡ foundOf (λ t. expired time (threadOf (stateAt (now (b .entry))) t)) threads 0 (arrivals (stateAt (now (b .entry)))) ⌝ }
 {
     let list = list_at(b);
     let count = u64_at(b, COUNT_AT) as usize;
-    let mut flags = [false; THREADS];
+    let mut left = [State::NO_ENTRY; THREADS];
+    let mut taken = [State::NO_ENTRY; THREADS];
+    let mut w: usize = 0;
+    let mut n: usize = 0;
     let mut i: usize = 0;
     while i < count {
-        let x = index_of(list[i]);
-        let t = thread_at(b, x);
+        let e = list[i];
+        let t = thread_at(b, index_of(e));
         let hit = t.has_expired(time);
-        flags[x] = hit;
+        taken[n] = either(hit, e, State::NO_ENTRY);
+        left[w] = either(hit, State::NO_ENTRY, e);
+        n += one_if(hit);
+        w += one_if(!hit);
         i += 1;
     }
-    flags
+    Found {
+        left: left,
+        count: w,
+        taken: taken,
+        released: n,
+        moved: 0,
+        looks: i,
+    }
 }

@@ -13,6 +13,11 @@ use Rattle.lists.proofs.Tests.{cases, clash, eqb-refl, eqb-sym}
 use Rattle.lists.proofs.Filter.{filter-true}
 use Rattle.lists.proofs.Occurs.{occurs, occurs-absent, occurs-take-le, occurs-filter-le}
 
+-- where nothing may be taken, all is left
+pub leftOver-none : {A : Type 0} (f : A → Bool) (l : List A) → leftOver f zero l ≡ l
+leftOver-none f [] = refl
+leftOver-none f (x ∷ xs) = refl
+
 -- an element that is taken, and one that is left
 module _ {A : Type 0} (f : A → Bool) (x : A) (xs : List A) where
   pub taken-one : (m : ℕ) → f x ≡ true → take (suc m) (filter f (x ∷ xs)) ≡ x ∷ take m (filter f xs)
@@ -26,11 +31,7 @@ module _ {A : Type 0} (f : A → Bool) (x : A) (xs : List A) where
   taken-none (suc m) e = cases (f x) (λ d. clash true refl (cc (lt-ltb 0 (suc m) (omega arith)))) (λ d. cc)
 
   pub leftOver-kept : (m : ℕ) → (f x && ltb 0 m) ≡ false → leftOver f m (x ∷ xs) ≡ x ∷ leftOver f m xs
-  leftOver-kept zero e = ap (x ∷_) (sym (leftOver-none xs))
-    where
-      leftOver-none : (l : List A) → leftOver f zero l ≡ l
-      leftOver-none [] = refl
-      leftOver-none (y ∷ ys) = refl
+  leftOver-kept zero e = ap (x ∷_) (sym (leftOver-none f xs))
   leftOver-kept (suc m) e = cases (f x) (λ d. clash true refl (cc (lt-ltb 0 (suc m) (omega arith)))) (λ d. cc)
 
 -- In a list without repeats, the first n that pass, taken out as numbers, leave what is left over.

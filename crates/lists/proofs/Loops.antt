@@ -54,6 +54,12 @@ module _ {A : Type 0} where
       let more : n - length l ≡ suc (n - length (l ++ (x ∷ []))) = omega (arith, length-snoc l x) in
       rw more (set-append-seam l z (replicate (n - length (l ++ (x ∷ []))) z) x ∙ sym (append-snoc l x (replicate (n - length (l ++ (x ∷ []))) z)))
 
+  -- a store of the filler there
+  pub padTo-filler : (n : ℕ) (z : A) (l : List A) → length l < n → set (padTo n z l) (length l) z ≡ padTo n z l
+  padTo-filler n z l h =
+      let more : n - length l ≡ suc (n - suc (length l)) = omega arith in
+      rw more (set-append-seam l z (replicate (n - suc (length l)) z) z)
+
   -- a test of every element
   pub all-snoc : (f : A → Bool) (l : List A) (x : A) → all f (l ++ (x ∷ [])) ≡ (all f l && f x)
   all-snoc f [] x = and-true (f x)

@@ -4,24 +4,26 @@ use mathlib.Core.Bool.{Bool, true, false}
 use mathlib.Core.List.{List, [], _∷_, _++_}
 use Prim.Native.Nat.{ℕ, _+_, _-_, _≤_, _<_}
 use native.Mathlib.Omega.{arith}
-use lib.ListN.{length, take, getD, set, replicate, length-append, List·getD-append}
-use lib.Seq.{take-append-seam}
+use lib.ListN.{length, take, drop, getD, set, replicate, length-append, List·getD-append}
+use lib.Seq.{take-add}
 use lib.Dec.{ltb}
 use borrow.Author.Tests.{ltb-true}
 use Rattle.lists.specs.Lists.{filter, all, without, padTo, leftOver}
 use Rattle.lists.proofs.Filter.{all-filtered, all-take, filter-true}
-use Rattle.lists.proofs.Occurs.{elem-all, elem-getD, filter-agree}
+use Rattle.lists.proofs.Occurs.{elem-all, elem-getD, filter-agree, without-append}
 use Rattle.lists.proofs.Loops.{length-snoc, padTo-snoc}
 use Rattle.lists.proofs.LeftOver.{without-taken, length-parts}
 use Rattle.tables.specs.declared.State.{State}
 use Rattle.tables.specs.declared.Thread.{Thread}
 use Rattle.tables.specs.declared.LastAnswer.{LastAnswer}
+use Rattle.tables.specs.declared.LastAnswer.the-variants.{Woken}
 use Rattle.tables.specs.declared.Change.the-variants.{End, MoveTo}
-use Rattle.arrivals.specs.declared.Parts.{Parts}
+use Rattle.arrivals.specs.declared.Found.{Found}
 use Rattle.tables.specs.Sizes.{threads, noEntry}
 use Rattle.tables.specs.Tables.{freshThread, threadOf, arrivals, change, withThreads, ended, endSleeps, moveSleeps, fallAsleep, asleepAt}
-use Rattle.tables.specs.Steps.{changedBy, Numbers, Flags, flagged, splitOf, endFirst, moveFirst}
-use Rattle.tables.proofs.Changes.{change-none, change-next}
+use Rattle.tables.specs.Steps.{changedBy, Numbers, Flags, flagged, foundOf, endFirst, requeueFirst}
+use Rattle.tables.proofs.Changes.{arrivals-end, change-none, change-next}
+use Rattle.arrivals.proofs.Theorems.{taken-stored, found-released, found-moved, found-left}
 use Rattle.tables.proofs.Sound.{Sound, listed-below, all-low, once, arrivals-fit, room}
 
 -- a list of thread numbers, stored
@@ -33,6 +35,9 @@ stored-numbers ts fits low =
           (ltb-true (getD ts k 0) threads (elem-all (λ t. ltb t threads) ts low (getD ts k 0) (elem-getD ts k 0 h)));
     }
 
+pub fewer-numbers : (l : List ℕ) (m n : ℕ) → n ≤ m → Numbers l m → Numbers l n
+fewer-numbers l m n less h = record { few = omega (arith, h .few); below = λ k b. h .below k (omega arith) }
+
 module _ (s : State) (g : Sound s) where
   -- flags that say which listed threads pass
   pub flagged-listed : (flags : List Bool) (f : ℕ → Bool) → Flags flags f → filter (flagged flags) (arrivals s) ≡ filter f (arrivals s)
@@ -41,47 +46,109 @@ module _ (s : State) (g : Sound s) where
   pub list-numbers : Numbers (s .list) (s .count)
   list-numbers = subst₂ Numbers (sym (g .stored)) (sym (g .counted)) (stored-numbers (arrivals s) (arrivals-fit s g) (all-low s g))
 
-  -- whom a split takes
-  module _ (f : ℕ → Bool) (cap : ℕ) where
-    abbrev taken : List ℕ
-    taken = take cap (filter f (arrivals s))
+  pub taken-fit : (f : ℕ → Bool) (cap : ℕ) → length (take cap (filter f (arrivals s))) ≤ threads
+  taken-fit f cap = omega (arith, length-parts f (arrivals s) cap, arrivals-fit s g)
 
-    pub taken-fit : length taken ≤ threads
-    taken-fit = omega (arith, length-parts f (arrivals s) cap, arrivals-fit s g)
+  -- whom a search takes
+  module _ (f : ℕ → Bool) (cap cap2 : ℕ) where
+    abbrev found : List ℕ
+    found = filter f (arrivals s)
 
-    pub taken-numbers : (parts : Parts) → parts ≡ splitOf f cap (arrivals s) → Numbers (parts .taken) (parts .n)
-    unfolding splitOf
-    taken-numbers parts is =
-        rw is (stored-numbers taken taken-fit (all-take (λ t. ltb t threads) cap _ (all-filtered (λ t. ltb t threads) f (arrivals s) (all-low s g))))
+    abbrev rs : List ℕ
+    rs = take cap found
 
-    -- what is left and what is taken, put back
-    seam : (l : List ℕ) → take (length l) (padTo threads noEntry l) ≡ l
-    seam l = take-append-seam l (replicate (threads - length l) noEntry)
+    abbrev ms : List ℕ
+    ms = take cap2 (drop cap found)
 
-    left-is : without taken (arrivals s) ≡ leftOver f cap (arrivals s)
-    left-is = without-taken f (arrivals s) cap (once s g)
+    both : take (cap + cap2) found ≡ rs ++ ms
+    both = take-add cap cap2 found
 
-    pub ends-first : (a : LastAnswer) (parts : Parts) → parts ≡ splitOf f cap (arrivals s)
-        → (u : State) → u ≡ withThreads (change (changedBy (End a)) (take (parts .n) (parts .taken)) (s .threads)) s
-        → record { state = record { clock = u .clock; threads = u .threads; list = parts .kept; count = parts .count }; n = parts .n } ≡ endFirst a f cap s
-    unfolding splitOf endFirst endSleeps
-    ends-first a parts is u new = cc (seam taken, left-is)
+    fit : length (rs ++ ms) ≤ threads
+    fit = omega (arith, ap length both, taken-fit f (cap + cap2))
 
-    pub joins : (parts : Parts) → parts ≡ splitOf f cap (arrivals s)
-        → (parts .kept ≡ padTo threads noEntry (take (parts .count) (parts .kept))) × (parts .count + parts .n ≤ threads)
-    unfolding splitOf
-    joins parts is =
-        rw is ((ap (padTo threads noEntry) (sym (seam (leftOver f cap (arrivals s))))), omega (arith, length-parts f (arrivals s) cap, arrivals-fit s g))
+    low : all (λ t. ltb t threads) (rs ++ ms) ≡ true
+    low = ap (all (λ t. ltb t threads)) (sym both) ∙ all-take (λ t. ltb t threads) (cap + cap2) _ (all-filtered (λ t. ltb t threads) f (arrivals s) (all-low s g))
 
-    pub moves-first : (a : ℕ) (parts : Parts) → parts ≡ splitOf f cap (arrivals s)
-        → (u : State) → u ≡ withThreads (change (changedBy (MoveTo a)) (take (parts .n) (parts .taken)) (s .threads)) s
-        → (l : List ℕ) → l ≡ padTo threads noEntry (take (parts .count) (parts .kept) ++ take (parts .n) (parts .taken))
-        → record { state = record { clock = u .clock; threads = u .threads; list = l; count = u .count }; n = parts .n } ≡ moveFirst a f cap s
-    unfolding splitOf moveFirst moveSleeps
-    moves-first a parts is u new l all =
-        let count : s .count ≡ length (leftOver f cap (arrivals s) ++ taken) =
-        g .counted ∙ sym (length-append (leftOver f cap (arrivals s)) taken ∙ length-parts f (arrivals s) cap) in
-        cc (seam taken, seam (leftOver f cap (arrivals s)), left-is)
+    -- what such a search hands back
+    module _ (x : Found) (is : x ≡ foundOf f cap cap2 (arrivals s)) where
+      released-is : x .released ≡ length rs
+      unfolding foundOf
+      released-is = ap (λ (y : Found). y .released) is
+
+      moved-is : x .moved ≡ length ms
+      unfolding foundOf
+      moved-is = ap (λ (y : Found). y .moved) is
+
+      left-is : x .left ≡ padTo threads noEntry (leftOver f (cap + cap2) (arrivals s))
+      unfolding foundOf
+      left-is = ap (λ (y : Found). y .left) is
+
+      count-is : x .count ≡ length (leftOver f (cap + cap2) (arrivals s))
+      unfolding foundOf
+      count-is = ap (λ (y : Found). y .count) is
+
+      pub taken-numbers : Numbers (x .taken) (x .released + x .moved)
+      taken-numbers =
+          let stored : x .taken ≡ padTo threads noEntry (rs ++ ms) = ap (λ (y : Found). y .taken) is ∙ taken-stored f cap cap2 (arrivals s) in
+          let counts : x .released + x .moved ≡ length (rs ++ ms) = omega (arith, released-is, moved-is, length-append rs ms) in
+          subst₂ Numbers (sym stored) (sym counts) (stored-numbers (rs ++ ms) fit low)
+
+      released-are : take (x .released) (x .taken) ≡ rs
+      released-are = ap (λ (y : Found). take (y .released) (y .taken)) is ∙ found-released f cap cap2 (arrivals s)
+
+      moved-are : take (x .moved) (drop (x .released) (x .taken)) ≡ ms
+      moved-are = ap (λ (y : Found). take (y .moved) (drop (y .released) (y .taken))) is ∙ found-moved f cap cap2 (arrivals s)
+
+      left-are : take (x .count) (x .left) ≡ leftOver f (cap + cap2) (arrivals s)
+      left-are = ap (λ (y : Found). take (y .count) (y .left)) is ∙ found-left f cap cap2 (arrivals s)
+
+      pub joins : (x .left ≡ padTo threads noEntry (take (x .count) (x .left))) × ((x .count + x .moved ≤ threads) × (x .released + x .moved ≤ threads))
+      joins = (
+        left-is ∙ ap (padTo threads noEntry) (sym left-are),
+        (
+          omega (arith, count-is, moved-is, ap length both, length-append rs ms, length-parts f (arrivals s) (cap + cap2), arrivals-fit s g),
+          omega (arith, released-is, moved-is, length-append rs ms, fit),
+        ),
+      )
+
+  -- a search with one cap ends their sleep
+  pub ends-first : (f : ℕ → Bool) (cap : ℕ) (a : LastAnswer) (x : Found) → x ≡ foundOf f cap 0 (arrivals s)
+      → (u : State) → u ≡ withThreads (change (changedBy (End a)) (take (x .released) (drop 0 (x .taken))) (s .threads)) s
+      → record { state = record { clock = u .clock; threads = u .threads; list = x .left; count = x .count }; n = x .released } ≡ endFirst a f cap s
+  unfolding endFirst endSleeps
+  ends-first f cap a x is u new =
+      let one : cap + 0 ≡ cap = omega arith in
+      let left : leftOver f (cap + 0) (arrivals s) ≡ without (take cap (filter f (arrivals s))) (arrivals s) =
+      ap (λ k. leftOver f k (arrivals s)) one ∙ sym (without-taken f (arrivals s) cap (once s g)) in
+      cc (released-are f cap 0 x is, left, left-is f cap 0 x is, count-is f cap 0 x is, released-is f cap 0 x is)
+
+  -- one with two caps ends the sleep of the first, and moves the next
+  pub requeues-first : (f : ℕ → Bool) (cap cap2 a : ℕ) (x : Found) → x ≡ foundOf f cap cap2 (arrivals s)
+      → (u : State) → u ≡ withThreads (change (changedBy (End Woken)) (take (x .released) (drop 0 (x .taken))) (s .threads)) s
+      → (v : State) → v ≡ withThreads (change (changedBy (MoveTo a)) (take (x .moved) (drop (x .released) (x .taken))) (u .threads)) u
+      → (l : List ℕ) → l ≡ padTo threads noEntry (take (x .count) (x .left) ++ take (x .moved) (drop (x .released) (x .taken)))
+      → record { state = record { clock = v .clock; threads = v .threads; list = l; count = x .count + x .moved }; released = x .released; moved = x .moved }
+      ≡ requeueFirst a f cap cap2 s
+  unfolding requeueFirst endSleeps moveSleeps
+  requeues-first f cap cap2 a x is u first v next l all =
+      let r = rs f cap cap2 in
+      let m = ms f cap cap2 in
+      let stay = without m (arrivals (endSleeps Woken r s)) in
+      let gone : stay ≡ leftOver f (cap + cap2) (arrivals s) =
+      ap (without m) (arrivals-end Woken r s) ∙ without-append r m (arrivals s) ∙ ap (λ ts. without ts (arrivals s)) (sym (both f cap cap2))
+      ∙ without-taken f (arrivals s) (cap + cap2) (once s g) in
+      let released = first ∙ ap (λ ts. withThreads (change (changedBy (End Woken)) ts (s .threads)) s) (released-are f cap cap2 x is) in
+      let moved : v ≡ withThreads (change (changedBy (MoveTo a)) m (change (changedBy (End Woken)) r (s .threads))) s =
+      next ∙ (λ j. withThreads (change (changedBy (MoveTo a)) (moved-are f cap cap2 x is j) (released j .threads)) (released j)) in
+      let list : l ≡ padTo threads noEntry (stay ++ m) =
+      all ∙ ap (padTo threads noEntry) ((λ j. left-are f cap cap2 x is j ++ moved-are f cap cap2 x is j) ∙ ap (_++ m) (sym gone)) in
+      let count : x .count + x .moved ≡ length (stay ++ m) =
+      omega (arith, count-is f cap cap2 x is, moved-is f cap cap2 x is, ap length gone, length-append stay m) in
+      λ j. record {
+        state = record { clock = moved j .clock; threads = moved j .threads; list = list j; count = count j };
+        released = released-is f cap cap2 x is j;
+        moved = moved-is f cap cap2 x is j;
+      }
 
 -- a thread that falls asleep
 pub falls-asleep : (s : State) → Sound s → (t a m : ℕ) (timed : Bool) (due : ℕ) (new : Thread) → t < threads → threadOf s t .waiting ≡ false

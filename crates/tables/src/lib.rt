@@ -2,11 +2,11 @@
 ghost use mathlib.Core.Path.{_≡_};
 ghost use mathlib.Core.Bool.{true, false, _&&_, _||_};
 ghost use Prim.Native.Nat.{_+_, _<_};
-ghost use lib.ListN.{take};
+ghost use lib.ListN.{take, drop};
 ghost use lib.Dec.{eqb};
 ghost use Rattle.tables.specs.Sizes.{processes, threads};
 ghost use Rattle.tables.specs.Tables.{freshThread, storedDeadline, withSleep, withLast, ended, movedTo, asleepAt, expired, sharesBit, sleepsAt, threadOf, fresh, change, withThreads, fallAsleep, tablesOk};
-ghost use Rattle.tables.specs.Steps.{changedBy, Numbers, Flags, flagged, endFirst, moveFirst};
+ghost use Rattle.tables.specs.Steps.{changedBy, Numbers, Flags, flagged, endFirst, requeueFirst};
 
 pub mod check;
 
@@ -14,7 +14,7 @@ pub use arrivals::PROCESSES;
 pub use arrivals::THREADS;
 use arrivals::index_of;
 use arrivals::joined;
-use arrivals::split;
+use arrivals::search;
 
 pub const WORDS: usize = PROCESSES * State::WORDS_PER_PROCESS;
 
@@ -162,6 +162,13 @@ pub struct Taken {
     pub n: u32,
 }
 
+// Tables after a requeue, how many sleepers it released and how many it moved.
+pub struct Requeued {
+    pub state: State,
+    pub released: u32,
+    pub moved: u32,
+}
+
 impl State {
     pub const THREADS_PER_PROCESS: usize = arrivals::THREADS_PER_PROCESS;
 
@@ -182,14 +189,14 @@ impl State {
         }
     }
 
-    // The records of the first n threads of ts, changed.
-    fn changed(mut self, ts: [u8; THREADS], n: usize, how: Change) -> Self
-        requires { ⌜ Numbers ts n ⌝ }
-        ensures { λ r. ⌜ r ≡ withThreads (change (changedBy how) (take n ts) (self .threads)) self ⌝ }
+    // The records of n threads of ts, from a place on, changed.
+    fn changed(mut self, ts: [u8; THREADS], from: usize, n: usize, how: Change) -> Self
+        requires { ⌜ Numbers ts (from + n) ⌝ }
+        ensures { λ r. ⌜ r ≡ withThreads (change (changedBy how) (take n (drop from ts)) (self .threads)) self ⌝ }
     {
         let mut i: usize = 0;
         while i < n {
-            let e = ts[i];
+            let e = ts[from + i];
             let x = index_of(e);
             let t = self.threads[x];
             let u = t.changed(how);
@@ -205,30 +212,38 @@ impl State {
         ensures { λ r. ⌜ r ≡ endFirst last (flagged flags) cap self ⌝ }
     {
         let list = self.list;
-        let parts = split(list, self.count, flags, cap);
-        let n = parts.n as u32;
-        let taken = parts.taken;
-        let mut s = self.changed(taken, parts.n, Change::End(last));
-        let kept = parts.kept;
-        s.list = kept;
-        s.count = parts.count;
+        let found = search(list, self.count, flags, cap, 0);
+        let n = found.released as u32;
+        let taken = found.taken;
+        let mut s = self.changed(taken, 0, found.released, Change::End(last));
+        let left = found.left;
+        s.list = left;
+        s.count = found.count;
         Taken { state: s, n: n }
     }
 
-    // The first cap sleepers whose flag is set move to the address, and to the end of the list. The kernel calls it as it does end_first.
-    pub fn move_first(self, flags: [bool; THREADS], cap: usize, uaddr: u32) -> Taken
+    // One search for a requeue: the first cap sleepers whose flag is set are released, the next cap2 move to the address and to the end
+    // of the list. The kernel calls it as it does end_first.
+    pub fn requeue_first(self, flags: [bool; THREADS], cap: u32, cap2: u32, uaddr: u32) -> Requeued
         requires { ⌜ tablesOk self ≡ true ⌝ }
-        ensures { λ r. ⌜ r ≡ moveFirst uaddr (flagged flags) cap self ⌝ }
+        ensures { λ r. ⌜ r ≡ requeueFirst uaddr (flagged flags) cap cap2 self ⌝ }
     {
         let list = self.list;
-        let parts = split(list, self.count, flags, cap);
-        let n = parts.n as u32;
-        let taken = parts.taken;
-        let mut s = self.changed(taken, parts.n, Change::MoveTo(uaddr));
-        let kept = parts.kept;
-        let all = joined(kept, parts.count, taken, parts.n);
+        let found = search(list, self.count, flags, cap as usize, cap2 as usize);
+        let released = found.released as u32;
+        let moved = found.moved as u32;
+        let taken = found.taken;
+        let rest = self.changed(taken, 0, found.released, Change::End(LastAnswer::Woken));
+        let mut s = rest.changed(taken, found.released, found.moved, Change::MoveTo(uaddr));
+        let left = found.left;
+        let all = joined(left, found.count, taken, found.released, found.moved);
         s.list = all;
-        Taken { state: s, n: n }
+        s.count = found.count + found.moved;
+        Requeued {
+            state: s,
+            released: released,
+            moved: moved,
+        }
     }
 
     // A running thread sleeps, and joins the end of the list, where there is room, since it is not there yet. The kernel calls it for a

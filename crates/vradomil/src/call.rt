@@ -16,7 +16,7 @@ use crate::buffers::judge_buffers;
 use crate::buffers::word_at;
 use changes::end_first;
 use changes::fall_asleep;
-use changes::move_first;
+use changes::requeue_first;
 use commands::deadline_of;
 use commands::mask_of;
 use commands::second_cap;
@@ -75,24 +75,26 @@ fn requeue(b: &mut [u8], c: Call) -> u32
     let u = uses_by(c.op);
     let cap2 = second_cap(c);
     let flags = hits(b, c.process as usize, c.uaddr, !u.mask, c.val3);
-    let n = end_first(b, flags, c.val as usize, LastAnswer::Woken);
-    let m = move_first(b, flags, cap2 as usize, c.uaddr2);
-    let more = only_if(u.compare, m);
-    n + more
+    let n = requeue_first(b, flags, c.val, cap2, c.uaddr2);
+    let more = only_if(u.compare, n.moved);
+    n.released + more
 }
 
-// The releases of a WAKE_OP, both chosen on the tables as they came, by whether its comparison holds.
+// The releases of a WAKE_OP, by whether its comparison holds. One word is searched once, with both caps; two are searched one after the
+// other, the second only if the comparison holds, for whom it may take on the tables as they came.
 fn release_both(b: &mut [u8], c: Call, holds: bool) -> u32
     requires { ⌜ Passed c (now b) ⌝ }
     ensures { λ r. ⌜ ((ws : List ℕ) → compares (c .val3) (wordAt (world (stateAt (now (b .entry))) ws) (c .process) (c .uaddr2)) ≡ holds → Leaves (wakeOp (commandOf (c .op)) c (world (stateAt (now (b .entry))) ws)) r (now (b .exit))) ⌝ }
 {
     let u = uses_by(c.op);
-    let cap2 = second_cap(c);
+    let cap2 = only_if(holds, second_cap(c));
     let first = hits(b, c.process as usize, c.uaddr, !u.mask, c.val3);
+    if (c.uaddr == c.uaddr2) | !holds {
+        return end_first(b, first, c.val as usize + cap2 as usize, LastAnswer::Woken);
+    }
     let second = hits(b, c.process as usize, c.uaddr2, !u.mask, c.val3);
     let n = end_first(b, first, c.val as usize, LastAnswer::Woken);
-    let cap = only_if(holds, cap2);
-    let m = end_first(b, second, cap as usize, LastAnswer::Woken);
+    let m = end_first(b, second, cap2 as usize, LastAnswer::Woken);
     n + m
 }
 

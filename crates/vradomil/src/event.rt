@@ -13,6 +13,7 @@ ghost use Rattle.vradomil.specs.Host.{ChangesWords, ChangesTables, Shows
 use crate::answer::refusal;
 use crate::buffers::judge_buffers;
 use changes::end_first;
+use changes::end_found;
 use commands::thread_index;
 use commands::word_index;
 use effects::only_if;
@@ -22,7 +23,7 @@ use layout::TABLES_SIZE;
 use layout::WAITING_AT;
 use layout::WORD_SIZE;
 use layout::check::sound;
-use layout::read::expired;
+use layout::read::due;
 use numbers::put_u32;
 use numbers::put_u64;
 use numbers::u64_at;
@@ -91,8 +92,8 @@ pub extern "C" fn vradomil_clock(tables: &mut [u8], words: &[u8], time: u64) -> 
             if time < clock {
                 return refusal(Errno::EINVAL);
             }
-            let flags = expired(tables, time);
-            let n = end_first(tables, flags, THREADS, LastAnswer::TimedOut);
+            let found = due(tables, time);
+            let n = end_found(tables, found, LastAnswer::TimedOut);
             put_u64(tables, CLOCK_AT, time);
             n as i32
         }

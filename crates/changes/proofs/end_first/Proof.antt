@@ -1,11 +1,12 @@
 use denote.Ref.{now}
-use mathlib.Core.Path.{_≡_, _∙_}
+use mathlib.Core.Path.{_≡_}
 use native.Mathlib.Omega.{arith}
 use lib.ListN.{length}
-use Rattle.tables.specs.Steps.{Numbers, flagged}
+use Rattle.tables.specs.Steps.{flagged}
+use Rattle.tables.proofs.Stored.{fewer-numbers}
 use Rattle.layout.specs.Layout.{tablesSize}
 use Rattle.changes.proofs.Standing.{size-held}
-use Rattle.changes.proofs.Taking.{Split, list-read, split-numbers, split-ends}
+use Rattle.changes.proofs.Taking.{Searched, list-read, found-are, found-numbers}
 use borrow.Author.Needs.{needs}
 use Rattle.changes.proofs.end_first.Statement.{statement}
 use Rattle.changes.proofs.end_first.Tie as tie
@@ -19,32 +20,22 @@ list-at-requires c κs = size (c .before .before)
 u64-at-requires : tie.Need-u64-at-requires
 u64-at-requires c κs = omega (arith, size (c .before .before .before .before))
 
-split-requires : tie.Need-split-requires
-split-requires c κs =
+search-requires : tie.Need-search-requires
+search-requires c κs =
     let g = c .before .before .before .before .before in
-    list-read (g .pre .state) (now (g .args .b)) (g .pre .stands) (c .before .before .list-at .result) (c .u64-at .result) (c .before .before .list-at .ensures) (c .u64-at .ensures .0)
+    (list-read (g .pre .state) (now (g .args .b)) (g .pre .stands) (c .before .before .list-at .result) (c .u64-at .result) (c .before .before .list-at .ensures) (c .u64-at .ensures .0), omega arith)
 
--- the list that is read, and its parts
-parts-of : (c : tie.After-split)
+-- the list that is read, and what is found there
+searched : (c : tie.After-search)
     → let g = c .before .before .before .before .before .before in
-    Split (now (g .args .b)) (flagged (g .args .flags)) (g .args .cap) (c .before .before .before .list-at .result) (c .before .u64-at .result) (c .split .result)
-parts-of c = record { read = c .before .before .before .list-at .ensures; counted = c .before .u64-at .ensures .0; is = c .split .ensures }
+    Searched (now (g .args .b)) (flagged (g .args .flags)) (g .args .cap) 0 (c .before .before .before .list-at .result) (c .before .u64-at .result) (c .search .result)
+searched c = record { read = c .before .before .before .list-at .ensures; counted = c .before .u64-at .ensures .0; is = c .search .ensures }
 
-numbers : (c : tie.After-split) → Numbers (c .split .result .taken) (c .split .result .n)
-numbers c =
-    let g = c .before .before .before .before .before .before in
-    split-numbers (g .pre .state) (now (g .args .b)) (g .pre .stands) (parts-of c)
-
-end-all-requires : tie.Need-end-all-requires
-end-all-requires c κs = (size (c .before .before .before .before .before .before .before .before), numbers (c .before .before))
-
-put-list-requires : tie.Need-put-list-requires
-put-list-requires c κs = c .before .before .before .before .end-all .kept .0 ∙ size (c .before .before .before .before .before .before .before .before .before .before .before .before .before)
-
-cast-result : tie.Need-cast-result
-cast-result c =
-    let k = c .before .before .before .before .before .before .before .before .before .before .before in
-    omega (arith, numbers k .few)
+end-found-requires : tie.Need-end-found-requires
+end-found-requires c κs =
+    let k = c .before in
+    let g = k .before .before .before .before .before .before in
+    (size g, fewer-numbers _ _ _ (omega arith) (found-numbers (g .pre .state) (now (g .args .b)) (g .pre .stands) (searched k)))
 
 same-length : tie.Need-same-length
 same-length c = search needs
@@ -52,21 +43,10 @@ same-length c = search needs
 returns : tie.Need-returns
 returns c =
     λ s h.
-    let p = c .before .before .before in
-    let e = p .before .before .before .before .before in
-    let k = e .before .before .before in
+    let e = c .before .before in
+    let k = e .before .before in
     let g = k .before .before .before .before .before .before in
-    split-ends s (now (g .args .b)) h (parts-of k) (g .args .last) _ _ (e .end-all .ensures) (p .put-list .ensures)
+    e .end-found .ensures (flagged (g .args .flags)) (g .args .cap) s h (found-are s (now (g .args .b)) h (searched k))
 
 pub end-first-spec : {M : Type 1} → statement M
-end-first-spec =
-    tie.close
-    (tie.spec
-    list-at-requires
-    u64-at-requires
-    split-requires
-    end-all-requires
-    put-list-requires
-    cast-result
-    same-length
-    returns)
+end-first-spec = tie.close (tie.spec list-at-requires u64-at-requires search-requires end-found-requires same-length returns)

@@ -5,10 +5,11 @@ use Rattle.rules.specs.declared.event.Event.{Event}
 use Rattle.rules.specs.declared.event.Event.the-variants.{Clock}
 use Rattle.rules.specs.declared.answer.Verdict.the-variants.{Pass}
 use Rattle.tables.specs.Tables.{world, World}
+use Rattle.tables.specs.Steps.{flagged}
 use Rattle.rules.specs.Events.{refusals, effect, clockEffect}
 use Rattle.tables.proofs.Sound.{Sound, sound-tables}
 use Rattle.rules.proofs.Passed.{sound-of}
-use Rattle.kernel.proofs.Events.{clock-ends}
+use Rattle.kernel.proofs.Events.{clock-ends, due-flagged}
 use Rattle.kernel.proofs.Steps.{cleared, follows-refused, follows-passed}
 use Rattle.kernel.proofs.event.set_clock.Statement.{statement}
 use Rattle.kernel.proofs.event.set_clock.Tie as tie
@@ -66,7 +67,8 @@ returns-2 c =
     let g = start m in
     let pass = e .before .before .enum-told .given .1 in
     follows-passed (event g) (g .args .s) (g .args .words .now) (m .of-clock .result) (m .of-clock .ensures) (c .counted .result) _ pass
-    (c .counted .ensures ∙ clock-ends (g .args .time) (g .args .s) (g .args .words .now) (sound m pass) (e .before .expired .result) (e .before .expired .ensures) (e .end-first .result) (e .end-first .ensures))
+    (c .counted .ensures ∙ clock-ends (g .args .time) (g .args .s) (g .args .words .now) (sound m pass) (flagged (e .before .expired .result))
+    (due-flagged (g .args .time) (g .args .s) (sound m pass) (e .before .expired .result) (e .before .expired .ensures)) (e .end-first .result) (e .end-first .ensures))
     (unfold clockEffect in refl)
 
 pub set-clock-spec : {M : Type 1} → statement M

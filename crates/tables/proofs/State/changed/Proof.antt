@@ -2,9 +2,10 @@
 use borrow.Author.Needs.{needs}
 use mathlib.Core.Path.{_≡_, sym, ap, _∙_}
 use mathlib.Core.List.{List}
-use Prim.Native.Nat.{ℕ, _-_, _≤_}
+use Prim.Native.Nat.{ℕ, _+_, _-_, _≤_}
 use native.Mathlib.Omega.{arith}
-use lib.ListN.{length, take, getD, length-map}
+use lib.ListN.{length, take, drop, getD, length-map, length-drop}
+use lib.Seq.{getD-drop}
 use Rattle.tables.specs.declared.State.{State}
 use Rattle.tables.specs.declared.Change.{Change}
 use Rattle.tables.specs.Sizes.{threads}
@@ -14,20 +15,23 @@ use Rattle.tables.proofs.Changes.{change-none, changed-next}
 use Rattle.tables.proofs.State.changed.Statement.{statement}
 use Rattle.tables.proofs.State.changed.Tie as tie
 
-record Going (how : Change) (s₀ : State) (ts : List ℕ) (n : ℕ) (s : State) (i : ℕ) : Type 0 where
+record Going (how : Change) (s₀ : State) (ts : List ℕ) (from n : ℕ) (s : State) (i : ℕ) : Type 0 where
   within : i ≤ n
-  done : s ≡ withThreads (change (changedBy how) (take i ts) (s₀ .threads)) s₀
+  done : s ≡ withThreads (change (changedBy how) (take i (drop from ts)) (s₀ .threads)) s₀
 
 abbrev Inv-loop : tie.InvT-loop
-Inv-loop n how self₀ ts i₀ self i = Going how self₀ ts n self i
+Inv-loop from n how self₀ ts i₀ self i = Going how self₀ ts from n self i
 
 abbrev μ-loop : tie.MeasureT-loop
-μ-loop n how self₀ ts i₀ self i = n - i
+μ-loop from n how self₀ ts i₀ self i = n - i
 
 loop-holds : tie.Need-loop-holds Inv-loop μ-loop
 loop-holds c =
     let s = c .args .t1 in
     record { within = omega arith; done = ap (λ rs. withThreads rs s) (sym (change-none (changedBy (c .args .how)) (s .threads))) }
+
+add-e : tie.Need-add-e Inv-loop μ-loop
+add-e c = omega (arith, c .before .before .pre .few)
 
 array-read-e : tie.Need-array-read-e Inv-loop μ-loop
 array-read-e c = omega arith
@@ -67,12 +71,14 @@ loop-again c =
     let k = c .before .before .before in
     let g = k .before .before in
     let i = k .before .loop .i in
-    let e = g .pre .below i (k .loop-test .taken) in
-    let x : c .before .before .index-of .result ≡ getD (g .args .t2) i 0 = c .before .before .index-of .ensures ∙ omega arith in
+    let from = g .args .from in
+    let e = g .pre .below (from + i) (omega arith) in
+    let x : c .before .before .index-of .result ≡ getD (drop from (g .args .t2)) i 0 =
+    c .before .before .index-of .ensures ∙ omega arith ∙ sym (getD-drop from (g .args .t2) i 0) in
     record {
       within = omega arith;
-      done = changed-next (g .args .how) (g .args .t1) (k .before .loop .self) (g .args .t2) i (c .before .before .index-of .result) (c .changed .result)
-          (omega (arith, size g)) (omega (arith, long g)) (k .before .loop .inv .done) x (c .changed .ensures);
+      done = changed-next (g .args .how) (g .args .t1) (k .before .loop .self) (drop from (g .args .t2)) i (c .before .before .index-of .result) (c .changed .result)
+          (omega (arith, size g, g .pre .few, length-drop from (g .args .t2))) (omega (arith, long g)) (k .before .loop .inv .done) x (c .changed .ensures);
     }
 
 returns : tie.Need-returns Inv-loop μ-loop
@@ -87,6 +93,7 @@ changed-spec =
     Inv-loop
     μ-loop
     loop-holds
+    add-e
     array-read-e
     index-of-requires
     mul-t

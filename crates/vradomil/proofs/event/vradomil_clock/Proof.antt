@@ -1,6 +1,7 @@
 use denote.Ref.{now}
 use mathlib.Core.Path.{_≡_, refl, sym, ap, _∙_}
-use mathlib.Core.Bool.{true, false, cond}
+use mathlib.Core.Bool.{Bool, true, false, cond}
+use Prim.Native.Nat.{ℕ}
 use lib.IntN.{pos}
 use native.Mathlib.Omega.{arith}
 use mir.Facts.{toZ-pos}
@@ -11,15 +12,16 @@ use Rattle.rules.specs.declared.answer.Errno.the-variants.{EINVAL}
 use Rattle.rules.specs.declared.answer.Reason.the-variants.{ClockBack}
 use Rattle.rules.specs.declared.answer.Verdict.the-variants.{Refuse, Pass}
 use Rattle.tables.specs.Sizes.{threads}
-use Rattle.tables.specs.Steps.{flagged, endFirst}
+use Rattle.tables.specs.Steps.{endFirst}
 use Rattle.tables.proofs.Sound.{Sound, tables-sound}
+use Rattle.tables.proofs.Stored.{fewer-numbers, taken-numbers}
 use Rattle.rules.specs.Answers.{_because_, first}
 use Rattle.rules.specs.Events.{refusals, effect, clockEffect}
-use Rattle.tables.specs.Tables.{world}
+use Rattle.tables.specs.Tables.{world, threadOf, expired, expiredSleepers}
 use Rattle.layout.specs.Layout.{tablesAt, stateAt, wordsAt}
 use Rattle.layout.specs.Check.{Held}
 use Rattle.vradomil.specs.Host.{seen, EventFits}
-use Rattle.vradomil.proofs.Steps.{read-back, stands, standing, event-refused, event-passed, changes-tables-refused, changes-tables-done}
+use Rattle.vradomil.proofs.Steps.{read-back, stands, event-refused, event-passed, changes-tables-refused, changes-tables-done}
 use Rattle.vradomil.proofs.Effects.{Ended, ended, answered-leaves}
 use lib.Dec.{ltb}
 use borrow.Author.Tests.{lt-ltb, le-ltb}
@@ -62,12 +64,20 @@ own c =
     let g = start l in
     event-passed (event g) (now (g .args .tables)) (now (g .args .words)) (l .judge-buffers .result) (l .judge-buffers .ensures) refl (c .enum-told .given .1)
 
-timed-out : (c : tie.After-end-first)
+-- whom the walk found, and what ending their sleep leaves
+abbrev isDue : ℕ → State → ℕ → Bool
+isDue time s t = expired time (threadOf s t)
+
+timed-out : (c : tie.After-end-found)
     → let p = c .before .before .before .before .before .before .before in
-    Ended TimedOut (flagged (c .before .before .expired .result)) threads (stateAt (now (start (p .before .before) .args .tables))) (c .end-first .result) (c .end-first .last .0)
+    let g = start (p .before .before) in
+    Ended TimedOut (isDue (g .args .time) (stateAt (now (g .args .tables)))) threads (stateAt (now (g .args .tables))) (c .end-found .result) (c .end-found .last .0)
 timed-out c =
     let p = c .before .before .before .before .before .before .before in
-    ended (stands (now (start (p .before .before) .args .tables)) (held p)) TimedOut _ _ _ _ (c .end-first .ensures)
+    let g = start (p .before .before) in
+    let s = stateAt (now (g .args .tables)) in
+    let stand = stands (now (g .args .tables)) (held p) in
+    ended stand TimedOut _ _ _ _ (c .end-found .ensures (isDue (g .args .time) s) threads s stand (c .before .before .due .ensures))
 
 judge-buffers-requires : tie.Need-judge-buffers-requires
 judge-buffers-requires c κs = search needs
@@ -101,16 +111,20 @@ returns c =
     changes-tables-refused (event g) b (now (g .args .words)) _ (EINVAL because ClockBack) (own p ∙ rw early)
     (read-back (c .refusal2 .ensures)) (fits g)
 
-expired-requires : tie.Need-expired-requires
-expired-requires c κs = held (c .before .before .before .before)
+due-requires : tie.Need-due-requires
+due-requires c κs = held (c .before .before .before .before)
 
-end-first-requires : tie.Need-end-first-requires
-end-first-requires c κs =
-    let p = c .before .before .before .before .before .before in
-    standing (now (start (p .before .before) .args .tables)) (held p)
+end-found-requires : tie.Need-end-found-requires
+end-found-requires c κs =
+    let d = c .before in
+    let p = d .before .before .before .before .before in
+    let g = start (p .before .before) in
+    let s = stateAt (now (g .args .tables)) in
+    let numbers = taken-numbers s (sound p) (isDue (g .args .time) s) threads 0 (d .due .result) (d .due .ensures) in
+    (held p .size, fewer-numbers _ _ _ (omega arith) numbers)
 
 put-u64-requires : tie.Need-put-u64-requires
-put-u64-requires c κs = omega (arith, c .before .before .before .end-first .kept .0, held (c .before .before .before .before .before .before .before .before .before .before) .size)
+put-u64-requires c κs = omega (arith, c .before .before .before .end-found .kept .0, held (c .before .before .before .before .before .before .before .before .before .before) .size)
 
 cast-result : tie.Need-cast-result
 cast-result c = record { sfits = omega (arith, timed-out (c .before .before .before .before .before .before) .few) }
@@ -143,16 +157,16 @@ returns-3 c =
     let m = now (g .args .words) in
     let s = stateAt b in
     let time = g .args .time in
-    let f = flagged (x .expired .result) in
+    let f = isDue time s in
     let t = endFirst TimedOut f threads s in
     let w = whole (t .state) (timed-out e .left .sound) in
     let early : ltb time (tablesAt b .clock) ≡ false = sym (ap (ltb time) (clock k)) ∙ le-ltb time (k .u64-at .result) (o .if1 .left) in
-    changes-tables-done (event g) b m _ (e .end-first .result) _ (held p) (own p ∙ rw early) (toZ-pos w32 {n = e .end-first .result} (omega (arith, timed-out e .few)))
-    (answered-leaves (clockEffect time (world s (wordsAt m))) _ (e .end-first .result) _ (clock-ends time s (wordsAt m) (sound p) (x .expired .result) (x .expired .ensures) t refl)
+    changes-tables-done (event g) b m _ (e .end-found .result) _ (held p) (own p ∙ rw early) (toZ-pos w32 {n = e .end-found .result} (omega (arith, timed-out e .few)))
+    (answered-leaves (clockEffect time (world s (wordsAt m))) _ (e .end-found .result) _ (clock-ends time s (wordsAt m) (sound p) f (unfold expiredSleepers in refl) t refl)
     (record {
       number = ap pos (timed-out e .took .number);
       small = omega (arith, timed-out e .few);
-      bytes = u .put-u64 .ensures ∙ clock-put (t .state) w time (e .end-first .last .0) (timed-out e .took .bytes);
+      bytes = u .put-u64 .ensures ∙ clock-put (t .state) w time (e .end-found .last .0) (timed-out e .took .bytes);
     })) (fits g)
 
 pub vradomil-clock-spec : {M : Type 1} → statement M
@@ -167,8 +181,8 @@ vradomil-clock-spec =
     refusal-requires-2
     same-length
     returns
-    expired-requires
-    end-first-requires
+    due-requires
+    end-found-requires
     put-u64-requires
     cast-result
     same-length-2

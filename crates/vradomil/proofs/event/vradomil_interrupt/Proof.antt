@@ -63,7 +63,8 @@ stopped : (c : tie.After-end-first)
     Ended Interrupted (flagged (one (c .before .before .thread-index .result))) 1 (stateAt (now (start (p .before .before) .args .tables))) (c .end-first .result) (c .end-first .last .0)
 stopped c =
     let p = c .before .before .before .before .before in
-    ended (stands (now (start (p .before .before) .args .tables)) (held p)) Interrupted _ _ _ _ (c .end-first .ensures)
+    let stand = stands (now (start (p .before .before) .args .tables)) (held p) in
+    ended stand Interrupted _ _ _ _ (c .end-first .ensures _ stand)
 
 judge-buffers-requires : tie.Need-judge-buffers-requires
 judge-buffers-requires c κs = search needs

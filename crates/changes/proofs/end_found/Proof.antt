@@ -1,0 +1,30 @@
+use denote.Ref.{now}
+use mathlib.Core.Path.{_∙_}
+use native.Mathlib.Omega.{arith}
+use Rattle.changes.proofs.Taking.{found-ends}
+use borrow.Author.Needs.{needs}
+use Rattle.changes.proofs.end_found.Statement.{statement}
+use Rattle.changes.proofs.end_found.Tie as tie
+
+end-all-requires : tie.Need-end-all-requires
+end-all-requires c κs = c .before .before .before .pre
+
+put-list-requires : tie.Need-put-list-requires
+put-list-requires c κs = c .before .before .before .before .end-all .kept .0 ∙ c .before .before .before .before .before .before .before .before .pre .0
+
+cast-result : tie.Need-cast-result
+cast-result c = omega (arith, c .before .before .before .before .before .before .before .before .before .before .before .before .pre .1 .few)
+
+same-length : tie.Need-same-length
+same-length c = search needs
+
+returns : tie.Need-returns
+returns c =
+    λ f cap s h is.
+    let p = c .before .before .before in
+    let e = p .before .before .before .before .before in
+    let g = e .before .before .before .before in
+    found-ends s (now (g .args .b)) h f cap (g .args .found) is (g .args .last) _ _ (e .end-all .ensures) (p .put-list .ensures)
+
+pub end-found-spec : {M : Type 1} → statement M
+end-found-spec = tie.close (tie.spec end-all-requires put-list-requires cast-result same-length returns)
