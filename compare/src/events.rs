@@ -247,8 +247,22 @@ fn cap(rng: &mut Rng, mood: Mood) -> u32 {
     }
 }
 
+/// An address where a thread of the caller's process sleeps.
+fn slept_at(rng: &mut Rng, state: &State, process: u8) -> Option<u32> {
+    let count = THREADS_PER_PROCESS;
+    let threads = &state.threads[count * process as usize..][..count];
+    let from = rng.below(count as u64) as usize;
+    let mut sleepers = (from..from + count).map(|n| threads[n % count]).filter(|t| t.waiting);
+    sleepers.next().map(|thread| thread.uaddr)
+}
+
+/// Half of these have a sleeper at their first word, so that some reach both of
+/// their caps.
 fn fit_second(rng: &mut Rng, mood: Mood, state: &State, words: &[u32], call: &mut Call) {
     call.val = cap(rng, mood);
+    if rng.percent(50) {
+        call.uaddr = slept_at(rng, state, call.process).unwrap_or(call.uaddr);
+    }
     call.uaddr2 = rng.pick(ADDRESSES);
     // Only the low 32 bits are the second cap.
     call.timeout = cap(rng, mood) as u64 + (rng.below(3) << 32);
@@ -263,14 +277,13 @@ fn fit_second(rng: &mut Rng, mood: Mood, state: &State, words: &[u32], call: &mu
 }
 
 /// A WAKE_OP whose second word mostly has a sleeper, by whom its comparison
-/// is seen.
+/// is seen, and now and then is the first word, too.
 fn fit_operation(rng: &mut Rng, state: &State, words: &[u32], call: &mut Call) {
-    let count = THREADS_PER_PROCESS;
-    let threads = &state.threads[count * call.process as usize..][..count];
-    let from = rng.below(count as u64) as usize;
     if rng.percent(80) {
-        let mut sleepers = (from..from + count).map(|n| threads[n % count]).filter(|t| t.waiting);
-        call.uaddr2 = sleepers.next().map_or(call.uaddr2, |thread| thread.uaddr);
+        call.uaddr2 = slept_at(rng, state, call.process).unwrap_or(call.uaddr2);
+    }
+    if rng.percent(20) {
+        call.uaddr = call.uaddr2;
     }
     call.val3 = operation(rng, words[call.uaddr2 as usize / 4]);
 }

@@ -7,6 +7,7 @@ mod operations;
 mod pair;
 mod reasons;
 mod room;
+mod searches;
 mod tables;
 mod tally;
 
@@ -118,6 +119,7 @@ impl Run<'_> {
         self.tally.event(event, given.number, Form::of(length), applying);
         if given.number >= 0 {
             self.tally.wake_op(self.pair.shown(event));
+            self.tally.search(event, self.pair.search_end(event));
         }
         Ok(())
     }

@@ -48,7 +48,7 @@ fn negative_field(bits: u32) -> bool {
 }
 
 /// How many sleep at a word.
-fn asleep_at(tables: &[u8], process: u8, address: u32) -> u32 {
+pub fn asleep_at(tables: &[u8], process: u8, address: u32) -> u32 {
     let first = THREADS_PER_PROCESS * process as usize;
     let is_there = |number: &usize| {
         tables[WAITING + number] == 1 && u32_at(tables, UADDR + 4 * number) == address

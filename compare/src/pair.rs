@@ -12,6 +12,7 @@ use crate::events;
 use crate::host;
 use crate::operations::Shown;
 use crate::room::Room;
+use crate::searches;
 
 /// The answer's number and its reason, as both sides gave them.
 #[derive(Clone, Copy)]
@@ -134,6 +135,14 @@ impl Pair {
             (Event::Call(call), Some((_, old))) if call.op & !PRIVATE_BIT == WAKE_OP => {
                 Shown::of(call, old, &self.before, &self.bytes)
             }
+            _ => None,
+        }
+    }
+
+    /// How the search of the last event, answered with a count, ended.
+    pub fn search_end(&self, event: &Event) -> Option<usize> {
+        match event {
+            Event::Call(call) => searches::end(call, &self.before, &self.bytes),
             _ => None,
         }
     }

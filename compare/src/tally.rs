@@ -1,7 +1,7 @@
 //! How often each kind of event got each answer and each reason, how often each
-//! operation and comparison of WAKE_OP was seen, how often a running thread
-//! called though the list says 64 or more, and which of these must have come up
-//! for a run to count.
+//! operation and comparison of WAKE_OP was seen, how the searches of wakes and
+//! requeues ended, how often a running thread called though the list says 64 or
+//! more, and which of these must have come up for a run to count.
 
 use std::fmt::Write;
 
@@ -10,6 +10,7 @@ use second::model::{Event, State, PRIVATE_BIT, THREADS, THREADS_PER_PROCESS};
 
 use crate::operations::{self, Shown, COMPARISONS, OPERATIONS, WAYS};
 use crate::reasons::{self, Reasons};
+use crate::searches::{self, ENDS};
 
 /// A kind of event: a command, or one of the others.
 pub type Kind = &'static str;
@@ -144,6 +145,8 @@ pub struct Tally {
     /// that was not negative, and one that was.
     compared: [[u64; WAYS]; COMPARISONS],
     operated: [[u64; 2]; 16],
+    /// How often the search of a kind ended so.
+    searched: [[u64; ENDS]; KINDS.len()],
     /// How often a running thread called though the list said 64 or more.
     crowded: [u64; KINDS.len()],
     pub sound: u64,
@@ -161,6 +164,7 @@ impl Tally {
             reasons: [[0; 256]; KINDS.len()],
             compared: [[0; WAYS]; COMPARISONS],
             operated: [[0; 2]; 16],
+            searched: [[0; ENDS]; KINDS.len()],
             crowded: [0; KINDS.len()],
             sound: 0,
             broken: 0,
@@ -187,6 +191,12 @@ impl Tally {
         if let Some(shown) = shown {
             self.compared[shown.comparison][shown.way] += 1;
             self.operated[shown.operation][shown.oparg_negative as usize] += 1;
+        }
+    }
+
+    pub fn search(&mut self, event: &Event, end: Option<usize>) {
+        if let Some(end) = end {
+            self.searched[place(event)][end] += 1;
         }
     }
 
@@ -253,12 +263,21 @@ impl Tally {
         }
     }
 
+    /// How often each kind's search ended in each way that it can.
+    fn searches(&self) -> impl Iterator<Item = (String, u64)> + '_ {
+        KINDS.iter().zip(&self.searched).flat_map(|(kind, counts)| {
+            let ends = searches::ends(kind).iter().zip(counts);
+            ends.map(move |(end, &count)| (format!("{kind}: {end}"), count))
+        })
+    }
+
     /// What should have come up and didn't.
     pub fn missing(&self, breaks: usize) -> Vec<String> {
         let mut missing = Vec::new();
         self.missing_answers(&mut missing);
         self.missing_reasons(&mut missing);
         self.missing_operations(&mut missing);
+        missing.extend(self.searches().filter(|&(_, count)| count == 0).map(|(name, _)| name));
         let unseen = |&(kind, n): &(&Kind, u64)| n == 0 && due(kind).contains(&-16);
         for (kind, _) in KINDS.iter().zip(self.crowded).filter(unseen) {
             missing.push(format!("{kind} by a running thread on a list that says 64 or more"));
@@ -272,8 +291,8 @@ impl Tally {
         missing
     }
 
-    /// One line: events by kind, answers, forms, reasons and comparisons seen,
-    /// calls on a list that says 64 or more, tables.
+    /// One line: events by kind, answers, forms, reasons, comparisons and ends of
+    /// searches seen, calls on a list that says 64 or more, tables.
     pub fn summary(&self) -> String {
         let kinds = KINDS.iter().enumerate().map(|(at, kind)| {
             let counts = self.counts.iter().flat_map(|counts| counts[at]);
@@ -293,6 +312,8 @@ impl Tally {
         let _ = write!(text, ", asked ({}), reasons seen ({})", listed(forms), listed(seen));
         let (yes, no) = (self.compared_to(true), self.compared_to(false));
         let _ = write!(text, ", comparisons seen (true {yes}, false {no})");
+        let ends = self.searches().map(|(name, count)| format!("{name} {count}"));
+        let _ = write!(text, ", searches seen ({})", listed(ends));
         let crowded: u64 = self.crowded.iter().sum();
         let _ =
             write!(text, ", called by a running thread on a list that says 64 or more {crowded}");

@@ -6,4 +6,5 @@ pub mod edges;
 pub mod events;
 pub mod logs;
 pub mod random;
+pub mod searches;
 pub mod tables;

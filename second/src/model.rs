@@ -1,13 +1,15 @@
-//! The futex kernel by the rules of document 01 and requests (i) and (ii) of
-//! document 02: the events, what they report and `step`, which applies one event
-//! to the tables and the lent words.
+//! The futex kernel by the rules of document 01 and requests (i), (ii) and (v)
+//! of document 02: the events, what they report and `step`, which applies one
+//! event to the tables and the lent words.
 
 mod calls;
+mod search;
 mod tables;
 
 use std::fmt;
 
-pub use tables::{State, Thread, INTERRUPTED, NO_ENTRY, NO_SLEEP_ENDED, TIMED_OUT, WOKEN};
+pub use search::{walk, Found, Search};
+pub use tables::{Row, State, Thread, INTERRUPTED, NO_ENTRY, NO_SLEEP_ENDED, TIMED_OUT, WOKEN};
 
 /// Eight processes of eight threads each.
 pub const PROCESSES: usize = 8;

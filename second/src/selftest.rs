@@ -1,7 +1,7 @@
 //! Checks of this program by itself: the cases of document 01, its sentences
-//! one by one, the reasons, the signed WAKE_OP, the refusal that never comes and
-//! the log in pieces of document 02, round trips, and random runs against the
-//! rules said once more in another way.
+//! one by one, the reasons, the signed WAKE_OP, the refusal that never comes, the
+//! log in pieces and the search of document 02, round trips, and random runs
+//! against the rules said once more in another way.
 
 mod calls;
 mod cuts;
@@ -16,6 +16,7 @@ mod pieces;
 mod reasons;
 mod replays;
 mod scripts;
+mod searches;
 mod twelve;
 
 use std::fmt::Debug;
@@ -129,6 +130,7 @@ pub fn run() -> Checks {
     cuts::run(&mut checks);
     histories::run(&mut checks);
     never::run(&mut checks);
+    searches::run(&mut checks);
     checks
 }
 

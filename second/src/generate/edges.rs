@@ -1,6 +1,6 @@
 //! The edge script: the twelve cases of document 01, its edge numbers, every
 //! refusal and the order between them, the slips it names, and the reasons, the
-//! signed WAKE_OP and the full list of document 02.
+//! signed WAKE_OP, the full list and the search of document 02.
 
 mod arguments;
 mod broken;
@@ -8,6 +8,7 @@ mod full;
 mod operations;
 mod reasons;
 mod refusals;
+mod searches;
 mod slips;
 mod times;
 mod twelve;
@@ -28,6 +29,7 @@ pub fn script() -> Vec<u8> {
     full::add(&mut script);
     slips::add(&mut script);
     reasons::add(&mut script);
+    searches::add(&mut script);
     script.bytes
 }
 

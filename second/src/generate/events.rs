@@ -83,7 +83,7 @@ fn index(rng: &mut Rng) -> u8 {
     }
 }
 
-fn address(rng: &mut Rng) -> u32 {
+pub fn address(rng: &mut Rng) -> u32 {
     match rng.below(100) {
         0..=84 => rng.pick(&[0, 4, 8]),
         85..=93 => rng.pick(GOOD_ADDRESSES),
@@ -193,7 +193,7 @@ fn caller(rng: &mut Rng, state: &State) -> (u8, u8) {
 }
 
 /// The word at an address, where there is one: what a wait should expect.
-fn word_at(words: &[u32], process: u8, address: u32) -> u32 {
+pub fn word_at(words: &[u32], process: u8, address: u32) -> u32 {
     let number = WORDS_PER_PROCESS * process as usize + (address / 4) as usize;
     if address < FIRST_BAD_ADDRESS {
         words.get(number).copied().unwrap_or(0)
@@ -256,7 +256,7 @@ fn fit_second(rng: &mut Rng, words: &[u32], call: &mut Call) {
 
 /// WAKE_OP's val3 for an old word: mostly defined operations, small and edge
 /// operands.
-fn operation(rng: &mut Rng, old: u32) -> u32 {
+pub fn operation(rng: &mut Rng, old: u32) -> u32 {
     let action = if rng.percent(92) { rng.below(5) } else { rng.below(8) } as u32;
     let shift = rng.below(2) as u32 * 8;
     let cmp = if rng.percent(92) { rng.below(6) } else { rng.below(16) } as u32;

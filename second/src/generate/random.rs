@@ -1,9 +1,10 @@
 //! Random scripts: events over fresh, sound and broken tables, and over too
-//! short or too long a memory, with dumps and word prints now and then.
+//! short or too long a memory, with searches, dumps and word prints now and
+//! then.
 
 use std::io::{self, Write};
 
-use super::{events, tables};
+use super::{events, searches, tables};
 use crate::model::WORDS;
 use crate::rng::Rng;
 use crate::script::{self, Machine, Record, MEMORY};
@@ -29,9 +30,18 @@ impl<W: Write> Maker<'_, W> {
     }
 
     fn event(&mut self) -> io::Result<()> {
-        let words = &self.machine.memory[..WORDS];
-        let event = events::next(&mut self.rng, &self.machine.state, words);
+        let (state, words) = (&self.machine.state, &self.machine.memory[..WORDS]);
+        // Here and not among the events of `next`, of which logs are made, too:
+        // these are to stay as they are.
+        let one_word = self.rng.percent(4);
+        let event = one_word.then(|| searches::one_word(&mut self.rng, state, words)).flatten();
+        let event = event.unwrap_or_else(|| events::next(&mut self.rng, state, words));
         self.add(Record::Event(event))
+    }
+
+    fn search(&mut self) -> io::Result<()> {
+        let asked = searches::search(&mut self.rng, &self.machine.state);
+        self.add(Record::Search(asked))
     }
 
     /// What a stretch of events starts from. Gives how long it may be: on
@@ -75,6 +85,7 @@ impl<W: Write> Maker<'_, W> {
         if let Some(state) = state {
             self.poke_all(&tables::pokes(&state))?;
         }
+        self.search()?;
         Ok(6)
     }
 
@@ -104,6 +115,9 @@ pub fn write(seed: u64, count: u64, out: &mut impl Write) -> io::Result<()> {
         let length = left.min(1 + maker.rng.below(longest));
         for _ in 0..length {
             maker.event()?;
+            if maker.rng.percent(13) {
+                maker.search()?;
+            }
             if maker.rng.percent(3) {
                 maker.show()?;
             }

@@ -2,10 +2,10 @@
 //! each command does.
 
 use super::{
-    thread_number, word_number, Answer, Call, Refusal, State, CLOCK_BIT, CMP_REQUEUE, EAGAIN,
-    EBUSY, EFAULT, ENOMEM, ENOSYS, ESRCH, ETIMEDOUT, FIRST_BAD_ADDRESS, FIRST_CAP, MASK_ZERO,
-    PRIVATE_BIT, REQUEUE, SAME_ADDRESS, SECOND_CAP, THREADS, UADDR2_NOT_ALIGNED, UADDR_NOT_ALIGNED,
-    WAIT, WAIT_BITSET, WAKE, WAKE_BITSET, WAKE_OP, WOKEN,
+    thread_number, word_number, Answer, Call, Refusal, Search, State, CLOCK_BIT, CMP_REQUEUE,
+    EAGAIN, EBUSY, EFAULT, ENOMEM, ENOSYS, ESRCH, ETIMEDOUT, FIRST_BAD_ADDRESS, FIRST_CAP,
+    MASK_ZERO, PRIVATE_BIT, REQUEUE, SAME_ADDRESS, SECOND_CAP, THREADS, UADDR2_NOT_ALIGNED,
+    UADDR_NOT_ALIGNED, WAIT, WAIT_BITSET, WAKE, WAKE_BITSET, WAKE_OP,
 };
 
 /// The highest cap that a wake may carry.
@@ -157,33 +157,49 @@ fn deadline(command: Command, call: &Call, clock: u64) -> Option<u64> {
 
 /// The commands that never sleep, after all tests. Gives the count.
 fn wake_or_requeue(state: &mut State, words: &mut [u32], command: Command, call: &Call) -> i32 {
-    if command == WakeOp {
-        return wake_op(state, words, call);
-    }
-    let mask = if command == WakeBitset { call.val3 } else { ALL_ONES };
-    let released = release(state, call.process, call.uaddr, mask, call.val);
-    if !has_second(command) {
-        return released;
-    }
-    let cap = second_cap(call);
-    let moved = state.move_sleepers(call.process, call.uaddr, call.uaddr2, cap);
-    // REQUEUE reports the released only, CMP_REQUEUE the sum.
-    if command == Requeue {
-        released
-    } else {
-        released + moved
+    match command {
+        WakeOp => wake_op(state, words, call),
+        WakeBitset => release(state, wake(call, Some(call.val3))),
+        // REQUEUE reports the released only, CMP_REQUEUE the sum.
+        Requeue => requeue(state, call).0,
+        CmpRequeue => {
+            let (released, moved) = requeue(state, call);
+            released + moved
+        }
+        _ => release(state, wake(call, None)),
     }
 }
 
-/// Releases the first `cap` sleepers of a word whose mask shares a bit.
-fn release(state: &mut State, process: u8, address: u32, mask: u32, cap: u32) -> i32 {
-    state.end_sleeps(cap, WOKEN, |number, thread| {
-        thread.waits_at(number, process, address) && thread.bitset & mask != 0
-    })
+/// The search of a wake at uaddr: it has one cap.
+fn wake(call: &Call, mask: Option<u32>) -> Search {
+    Search { process: call.process, address: call.uaddr, mask, cap: call.val, second_cap: 0 }
+}
+
+/// One search, and whomever either cap takes is released. Gives how many.
+fn release(state: &mut State, search: Search) -> i32 {
+    let found = search.along(state);
+    state.wake(&found.first);
+    state.wake(&found.second);
+    state.set_list(&found.left);
+    (found.first.entries().len() + found.second.entries().len()) as i32
+}
+
+/// One search with two caps: the first releases, the second moves to uaddr2 and
+/// to the end of the list. Gives how many each took.
+fn requeue(state: &mut State, call: &Call) -> (i32, i32) {
+    let search = Search { second_cap: second_cap(call), ..wake(call, None) };
+    let found = search.along(state);
+    state.wake(&found.first);
+    state.set_address(&found.second, call.uaddr2);
+    let mut listed = found.left;
+    listed.extend(found.second.entries());
+    state.set_list(&listed);
+    (found.first.entries().len() as i32, found.second.entries().len() as i32)
 }
 
 /// WAKE_OP: the second word changes first, then sleepers of the first word are
 /// released, then, if the old second word compares true, those of the second.
+/// Where both are one word this is one search with two caps.
 fn wake_op(state: &mut State, words: &mut [u32], call: &Call) -> i32 {
     let Some(operation) = Operation::of(call.val3) else {
         return ENOSYS; // tested before; nothing has changed here either
@@ -191,12 +207,15 @@ fn wake_op(state: &mut State, words: &mut [u32], call: &Call) -> i32 {
     let place = word_number(call.process, call.uaddr2);
     let old = words[place];
     words[place] = operation.new_word(old);
-    let mut released = release(state, call.process, call.uaddr, ALL_ONES, call.val);
-    if operation.compares_true(old) {
-        let cap = second_cap(call);
-        released += release(state, call.process, call.uaddr2, ALL_ONES, cap);
+    let first = wake(call, None);
+    if !operation.compares_true(old) {
+        return release(state, first);
     }
-    released
+    if call.uaddr == call.uaddr2 {
+        return release(state, Search { second_cap: second_cap(call), ..first });
+    }
+    let second = Search { address: call.uaddr2, cap: second_cap(call), ..first };
+    release(state, first) + release(state, second)
 }
 
 /// What a field of so many bits stands for as a signed number: the upper half

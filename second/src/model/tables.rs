@@ -50,6 +50,31 @@ impl Thread {
     }
 }
 
+/// Threads in the order in which they stand, or stood, on the list.
+#[derive(Clone, Copy, Debug, PartialEq, Eq)]
+pub struct Row {
+    list: [u8; THREADS],
+    count: usize,
+}
+
+impl Row {
+    pub const EMPTY: Row = Row { list: [NO_ENTRY; THREADS], count: 0 };
+
+    pub fn entries(&self) -> &[u8] {
+        &self.list[..self.count]
+    }
+
+    pub fn push(&mut self, entry: u8) {
+        self.list[self.count] = entry;
+        self.count += 1;
+    }
+
+    pub fn extend(&mut self, entries: &[u8]) {
+        self.list[self.count..self.count + entries.len()].copy_from_slice(entries);
+        self.count += entries.len();
+    }
+}
+
 /// The tables. Any value of any field can be held, broken ones too.
 #[derive(Clone, Debug, PartialEq, Eq)]
 pub struct State {
@@ -137,27 +162,22 @@ impl State {
         ended as i32
     }
 
-    /// Moves the first `cap` sleepers of one word to another word of the same
-    /// process: they leave their places and join the end of the arrival list
-    /// in their order, mask and deadline kept. Gives how many.
-    pub fn move_sleepers(&mut self, process: u8, from: u32, to: u32, cap: u32) -> i32 {
-        let mut moved = [NO_ENTRY; THREADS];
-        let mut moved_count = 0;
-        let mut kept = [NO_ENTRY; THREADS];
-        let mut kept_count = 0;
-        for &entry in &self.list[..self.count as usize] {
-            let number = entry as usize;
-            if (moved_count as u32) < cap && self.threads[number].waits_at(number, process, from) {
-                self.threads[number].uaddr = to;
-                moved[moved_count] = entry;
-                moved_count += 1;
-            } else {
-                kept[kept_count] = entry;
-                kept_count += 1;
-            }
+    /// Lets threads run that a wake or a requeue has taken off the list.
+    pub fn wake(&mut self, taken: &Row) {
+        for &entry in taken.entries() {
+            self.threads[entry as usize] = Thread::running(WOKEN);
         }
-        kept[kept_count..kept_count + moved_count].copy_from_slice(&moved[..moved_count]);
-        self.list = kept;
-        moved_count as i32
+    }
+
+    /// Gives sleepers another word; mask and deadline are kept.
+    pub fn set_address(&mut self, moved: &Row, address: u32) {
+        for &entry in moved.entries() {
+            self.threads[entry as usize].uaddr = address;
+        }
+    }
+
+    pub fn set_list(&mut self, listed: &Row) {
+        self.list = listed.list;
+        self.count = listed.count as u64;
     }
 }

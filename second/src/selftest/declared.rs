@@ -1,12 +1,12 @@
-//! The rules of document 01 and requests (i) and (ii) of document 02 said once
-//! more, in another way: refusals as the table of answers, reasons as a set,
+//! The rules of document 01 and requests (i), (ii) and (v) of document 02 said
+//! once more, in another way: refusals as the table of answers, reasons as a set,
 //! effects as sets of threads taken from queues, WAKE_OP's signed numbers by
-//! moving their bits. It builds whole new tables and words, to be compared with
-//! what `step` left behind.
+//! moving their bits, looks as the length of a prefix. It builds whole new tables
+//! and words, to be compared with what `step` left behind.
 
 use std::collections::BTreeSet;
 
-use crate::model::{Answer, Call, Event, Report, State, Thread, THREADS, WORDS};
+use crate::model::{Answer, Call, Event, Report, Search, State, Thread, THREADS, WORDS};
 
 type Outcome = (Report, State, Vec<u32>);
 
@@ -66,6 +66,45 @@ fn queue(state: &State) -> Vec<usize> {
 fn queue_at(state: &State, process: u8, address: u32) -> Vec<usize> {
     let here = |t: &usize| *t / 8 == process as usize && state.threads[*t].uaddr == address;
     queue(state).into_iter().filter(here).collect()
+}
+
+/// What a search must hand back on sound tables: whom the first cap takes, whom
+/// the second, who is left, and the looks: the length of the shortest prefix that
+/// has as many matches as both caps want, or all of the list.
+pub fn search(state: &State, search: &Search) -> (Vec<u8>, Vec<u8>, Vec<u8>, usize) {
+    let suits = |t: &usize| match search.mask {
+        Some(mask) => state.threads[*t].bitset & mask != 0,
+        None => true,
+    };
+    let mut here = queue_at(state, search.process, search.address);
+    here.retain(suits);
+    let (cap, second_cap) = (search.cap as usize, search.second_cap as usize);
+    let released: Vec<usize> = here.iter().copied().take(cap).collect();
+    let moved: Vec<usize> = here.iter().copied().skip(cap).take(second_cap).collect();
+    let all = queue(state);
+    let mut left = all.clone();
+    left.retain(|t| !released.contains(t) && !moved.contains(t));
+    let matches = |length: &usize| all[..*length].iter().filter(|t| here.contains(t)).count();
+    let shortest = (0..=all.len()).find(|length| matches(length) == cap + second_cap);
+    let bytes = |threads: Vec<usize>| threads.into_iter().map(|t| t as u8).collect();
+    (bytes(released), bytes(moved), bytes(left), shortest.unwrap_or(all.len()))
+}
+
+/// What a script prints for a search.
+pub fn searched(state: &State, asked: &Search) -> String {
+    if !sound(state) {
+        return "-9".into();
+    }
+    if asked.process > 7 {
+        return "-3".into();
+    }
+    let (released, moved, left, looks) = search(state, asked);
+    let text = |name: &str, threads: Vec<u8>| {
+        let numbers = threads.into_iter().map(|t| format!(" {t}"));
+        format!(" {name}{}", numbers.collect::<String>())
+    };
+    let [released, moved] = [text("released", released), text("moved", moved)];
+    format!("looks {looks}{released}{moved}{}", text("left", left))
 }
 
 /// The table rules, by counting instead of marking.

@@ -2,13 +2,15 @@
 
 use super::{declared, Checks};
 use crate::generate::{edges, random};
-use crate::script::{self, Machine, Record, Script, MEMORY};
+use crate::model::State;
+use crate::script::{self, Asked, Machine, Record, Script, MEMORY};
 use crate::shorthand as s;
 
 pub fn run(checks: &mut Checks) {
     printing(checks);
     bad_scripts(checks);
     pokes(checks);
+    searches(checks);
     let edges = edges::script();
     holds_throughout(checks, "edges", &edges);
     checks.holds("edges are fixed", edges == edges::script());
@@ -58,6 +60,25 @@ fn bad_scripts(checks: &mut Checks) {
     checks.equal("too much memory", printed(&script.bytes), "0\nbad script\n".into());
 }
 
+/// A search is 19 bytes, and takes any flag above 0 for one.
+fn searches(checks: &mut Checks) {
+    let mut script = Script::default();
+    script.events(&[s::wait_bitset((0, 1), 8, 0, 6), s::wait((0, 2), 8, 0)]);
+    let start = script.bytes.len();
+    for (process, flag, mask) in [(0, 0, 9), (0, 1, 9), (0, 255, 2), (8, 0, 0)] {
+        script.search(Asked { process, address: 8, flag, mask, cap: 1, second_cap: 258 });
+    }
+    script.add(Record::Poke { field: 1, index: 0, value: 3 });
+    script.search(Asked { process: 8, ..Asked::default() });
+    let bytes = [83, 0, 8, 0, 0, 0, 0, 9, 0, 0, 0, 1, 0, 0, 0, 2, 1, 0, 0];
+    checks.holds("bytes of a search", script.bytes[start..start + 19] == bytes);
+    let both = "looks 2 released 1 moved 2 left";
+    let want = format!("asleep\nasleep\n{both}\nlooks 2 released 2 moved left 1\n{both}\n-3\n-9\n");
+    checks.equal("searches", printed(&script.bytes), want);
+    let cut = printed(&script.bytes[..start + 18]);
+    checks.equal("cut search", cut, "asleep\nasleep\nbad script\n".into());
+}
+
 /// Pokes are cut to the field's width, and the index too.
 fn pokes(checks: &mut Checks) {
     let mut machine = Machine::fresh();
@@ -77,22 +98,18 @@ fn pokes(checks: &mut Checks) {
 }
 
 /// Runs a made script: it is read to its end, is written back the same, and
-/// every event does what the rules said the other way want.
+/// every event and every search does what the rules said the other way want.
 fn holds_throughout(checks: &mut Checks, name: &str, bytes: &[u8]) {
     let mut machine = Machine::fresh();
     let mut place = 0;
     let mut copy = Vec::new();
     while let Some((record, next)) = script::read(bytes, place) {
         script::write(&record, &mut copy);
-        let words = &machine.memory[..machine.lent];
-        let want = match &record {
-            Record::Event(event) => Some(declared::outcome(&machine.state, words, event)),
-            _ => None,
-        };
+        let want = wanted(&machine, &record);
         let mut out = Vec::new();
         checks.holds(name, machine.apply(&record, &mut out).is_ok());
-        if let Some((report, state, words)) = want {
-            checks.equal(name, String::from_utf8_lossy(&out).as_ref(), &format!("{report}\n"));
+        if let Some((line, state, words)) = want {
+            checks.equal(name, String::from_utf8_lossy(&out).as_ref(), &format!("{line}\n"));
             let same = machine.state == state && machine.memory[..machine.lent] == words[..];
             checks.holds(name, same);
         }
@@ -100,4 +117,20 @@ fn holds_throughout(checks: &mut Checks, name: &str, bytes: &[u8]) {
     }
     checks.equal(name, place, bytes.len());
     checks.holds(name, copy == bytes);
+}
+
+/// What a record that asks the kernel must print and leave.
+fn wanted(machine: &Machine, record: &Record) -> Option<(String, State, Vec<u32>)> {
+    let words = &machine.memory[..machine.lent];
+    match record {
+        Record::Event(event) => {
+            let (report, state, words) = declared::outcome(&machine.state, words, event);
+            Some((report.to_string(), state, words))
+        }
+        Record::Search(asked) => {
+            let line = declared::searched(&machine.state, &asked.search());
+            Some((line, machine.state.clone(), words.to_vec()))
+        }
+        _ => None,
+    }
 }
