@@ -1,8 +1,8 @@
 /*
  * Times the library against plain.c and tuned.c on the same events: many short batches, the sides by turns, each batch on tables
  * that were copied into place just before, outside the time. Prints the median time of a call and the median ratios; first of the
- * functions that answer a number alone, then of those that also write a report. With an older library beside it, that is one more
- * side, by its numbers alone both times.
+ * functions that answer a number alone, then (not of the searches) of those that also write a report. With an older library beside
+ * it, that is one more side, by its numbers alone both times. It can also make each call of the searches once, for callgrind.
  */
 #define _GNU_SOURCE
 #include "kinds.h"
@@ -45,7 +45,7 @@ struct kernel {
 #define REPORTS(name) name##_call_report, name##_store_report, name##_clock_report, name##_interrupt_report
 
 #if WITH_BEFORE
-/* The older library; bench/run gives its functions these names. */
+/* The older library; bench/build gives its functions these names. */
 __typeof__(vradomil_call) before_vradomil_call;
 __typeof__(vradomil_store) before_vradomil_store;
 __typeof__(vradomil_clock) before_vradomil_clock;
@@ -69,6 +69,13 @@ struct side {
     struct vradomil_report reports[BATCH];
     uint32_t words[VRADOMIL_WORDS];
 };
+
+/* What one line is of: a kind, with so many sleepers. */
+struct cell {
+    const struct suite *suite;
+    int kind, sleepers;
+};
+enum { FILLS = 4, MOST_CELLS = MOST_KINDS * FILLS };
 
 static size_t batches = BATCHES; /* how many are run by turns */
 static struct sample samples[SAMPLES];
@@ -185,32 +192,41 @@ static double timer_cost(void)
     return median(costs, 1000);
 }
 
-static void prepare(int number, int sleepers)
+static void prepare(const struct cell *cell)
 {
     for (size_t i = 0; i < SAMPLES; i++)
-        make_sample(&samples[i], number, sleepers);
+        make_sample(&samples[i], cell->suite, cell->kind, cell->sleepers);
     for (int side = 0; side < SIDES; side++)
         for (size_t i = 0; i < VRADOMIL_WORDS; i++)
             sides[side].words[i] = WORD_VALUE;
 }
 
+/* The next batch on all sides: nanoseconds a call. */
+static void run_round(const struct cell *cell, size_t round, bool report, double timer, double times[SIDES])
+{
+    const struct sample *first = &samples[round % batches * BATCH];
+    size_t step = round / SIDES % 2 ? SIDES - 1 : 1; /* each side at each place, both ways round */
+    for (size_t turn = 0; turn < SIDES; turn++) {
+        size_t side = (round + turn * step) % SIDES;
+        times[side] = run_batch(&kernels[side], &sides[side], first, report, timer);
+    }
+    check(&cell->suite->kinds[cell->kind], report);
+}
+
 /* Prints one line; gives the library's time over that of each side. */
-static void measure(int number, int sleepers, bool report, double timer, double over[SIDES])
+static void measure(const struct cell *cell, bool report, double timer, double over[SIDES])
 {
     static double times[SIDES][ROUNDS], ratios[SIDES][ROUNDS];
-    prepare(number, sleepers);
+    double took[SIDES];
+    prepare(cell);
     for (size_t round = 0; round < ROUNDS; round++) {
-        const struct sample *first = &samples[round % batches * BATCH];
-        size_t step = round / SIDES % 2 ? SIDES - 1 : 1; /* each side at each place, both ways round */
-        for (size_t turn = 0; turn < SIDES; turn++) {
-            size_t side = (round + turn * step) % SIDES;
-            times[side][round] = run_batch(&kernels[side], &sides[side], first, report, timer);
+        run_round(cell, round, report, timer, took);
+        for (int side = 0; side < SIDES; side++) {
+            times[side][round] = took[side];
+            ratios[side][round] = took[LIBRARY] / took[side];
         }
-        check(&kinds[number], report);
-        for (int side = 0; side < SIDES; side++)
-            ratios[side][round] = times[LIBRARY][round] / times[side][round];
     }
-    printf("%-24s %8d", kinds[number].name, sleepers);
+    printf("%-24s %8d", cell->suite->kinds[cell->kind].name, cell->sleepers);
     for (int side = 0; side < SIDES; side++)
         printf(" %10.1f", median(times[side], ROUNDS));
     for (int side = 0; side < SIDES; side++) {
@@ -232,22 +248,30 @@ static void headings(void)
     printf("\n");
 }
 
-/* All kinds and fills, and a last line over all of them. */
-static void measure_all(const char *title, bool report, double timer)
+/* All kinds with all fills; says how many. */
+static size_t list_cells(const struct suite *suite, struct cell cells[MOST_CELLS])
 {
-    static const int sleepers[] = {0, 1, 32, 63};
-    double over[SIDES], all[SIDES][KINDS * 4];
+    static const int sleepers[FILLS] = {0, 1, 32, 63};
     size_t n = 0;
+    for (int kind = 0; kind < suite->count; kind++)
+        for (size_t k = 0; k < FILLS; k++)
+            if (sleepers[k] >= suite->kinds[kind].fewest)
+                cells[n++] = (struct cell){suite, kind, sleepers[k]};
+    return n;
+}
+
+/* A line for each cell, and a last line over all of them. */
+static void measure_all(const struct suite *suite, const char *title, bool report, double timer)
+{
+    struct cell cells[MOST_CELLS];
+    double over[SIDES], all[SIDES][MOST_CELLS];
+    size_t n = list_cells(suite, cells);
     headings();
-    for (int kind = 0; kind < KINDS; kind++)
-        for (size_t k = 0; k < 4; k++) {
-            if (sleepers[k] < kinds[kind].fewest)
-                continue;
-            measure(kind, sleepers[k], report, timer, over);
-            for (int side = 0; side < SIDES; side++)
-                all[side][n] = over[side];
-            n++;
-        }
+    for (size_t k = 0; k < n; k++) {
+        measure(&cells[k], report, timer, over);
+        for (int side = 0; side < SIDES; side++)
+            all[side][k] = over[side];
+    }
     for (int side = 0; side < SIDES; side++) {
         double middle = median(all[side], n);
         if (side != LIBRARY)
@@ -257,17 +281,45 @@ static void measure_all(const char *title, bool report, double timer)
     printf("\n");
 }
 
+/* Does nothing, but is called: bench/searches has callgrind write down here what it counted of a cell. */
+__attribute__((noinline)) void counted(void)
+{
+    __asm__ volatile("");
+}
+
+/* Makes each call once on all sides, and prints for each cell how many there were. */
+static void count_all(const struct suite *suite)
+{
+    struct cell cells[MOST_CELLS];
+    double times[SIDES];
+    size_t n = list_cells(suite, cells);
+    for (size_t k = 0; k < n; k++) {
+        prepare(&cells[k]);
+        for (size_t round = 0; round < batches; round++)
+            run_round(&cells[k], round, false, 0, times);
+        counted();
+        printf("%zu\n", batches * BATCH);
+    }
+}
+
 int main(int argc, char **argv)
 {
     double timer = timer_cost();
-    if (argc > 1)
-        batches = strtoul(argv[1], NULL, 10);
-    if (argc > 2 || batches < 1 || batches > BATCHES) {
-        fprintf(stderr, "usage: bench [BATCHES], 1 to %d\n", BATCHES);
+    const char *what = argc > 1 ? argv[1] : "";
+    if (argc > 2)
+        batches = strtoul(argv[2], NULL, 10);
+    bool good = argc <= 3 && batches >= 1 && batches <= BATCHES;
+    if (good && strcmp(what, "events") == 0) {
+        measure_all(&events, "numbers:", false, timer);
+        printf("\n");
+        measure_all(&events, "reports:", true, timer);
+    } else if (good && strcmp(what, "searches") == 0) {
+        measure_all(&searches, "searches:", false, timer);
+    } else if (good && strcmp(what, "count") == 0) {
+        count_all(&searches);
+    } else {
+        fprintf(stderr, "usage: bench events|searches|count [BATCHES], 1 to %d\n", BATCHES);
         return 2;
     }
-    measure_all("numbers:", false, timer);
-    printf("\n");
-    measure_all("reports:", true, timer);
     return 0;
 }

@@ -169,8 +169,11 @@ static inline int32_t wake_op(const struct call *c)
     uint32_t old = load(c->area + c->uaddr2);
     uint32_t new = operate(op, signed_field(c->val3 >> 12 & 4095), old);
     memcpy(c->area + c->uaddr2, &new, sizeof new);
+    bool second = compares(cmp, (int32_t)old, signed_field(c->val3 & 4095));
+    if (second && c->uaddr2 == c->uaddr)
+        return release(c->t, c->process, c->uaddr, ALL_ONES, c->val + c->cap2); /* both caps are below 2^31 */
     int32_t released = release(c->t, c->process, c->uaddr, ALL_ONES, c->val);
-    if (compares(cmp, (int32_t)old, signed_field(c->val3 & 4095)))
+    if (second)
         released += release(c->t, c->process, c->uaddr2, ALL_ONES, c->cap2);
     return released;
 }

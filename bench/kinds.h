@@ -29,13 +29,20 @@ struct kind {
 /* What stands in a report before an event. A query has no report and leaves it. */
 enum { STALE = 255 };
 
-enum { KINDS = 15 };
-extern const struct kind kinds[KINDS];
+/* Kinds that are measured together. */
+struct suite {
+    const struct kind *kinds;
+    int count;
+    struct event (*make_event)(struct vradomil_tables *t, int kind, uint8_t caller); /* may change the tables */
+};
+
+enum { MOST_KINDS = 15 };
+extern const struct suite events, searches;
 
 /* The words that the events read hold this number. */
 enum { WORD_VALUE = -7 };
 
 /* One random case of a kind, with so many sleepers. */
-void make_sample(struct sample *s, int kind, int sleepers);
+void make_sample(struct sample *s, const struct suite *suite, int kind, int sleepers);
 
 #endif
