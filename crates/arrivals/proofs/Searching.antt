@@ -20,7 +20,6 @@ pub record Searching (l : List ℕ) (f : ℕ → Bool) (cap : ℕ) (left taken :
   pub ks : List ℕ
   pub ts : List ℕ
   pub within : i ≤ length l
-  pub few : n ≤ cap
   pub so-far : w + n ≡ i
   pub left-stored : left ≡ padTo threads noEntry ks
   pub taken-stored : taken ≡ padTo threads noEntry ts
@@ -37,7 +36,6 @@ searching-start l f cap =
       ks = [];
       ts = [];
       within = omega arith;
-      few = omega arith;
       so-far = refl;
       left-stored = refl;
       taken-stored = refl;
@@ -75,7 +73,6 @@ module _ (l : List ℕ) (f : ℕ → Bool) (cap : ℕ) (left taken : List ℕ) (
         ks = g .ks;
         ts = g .ts ++ (x ∷ []);
         within = omega arith;
-        few = omega arith;
         so-far = omega (arith, g .so-far);
         left-stored = g .left-stored;
         taken-stored = cc (g .taken-stored, g .taken-counted, padTo-snoc threads noEntry (g .ts) x (omega (arith, g .taken-counted, g .so-far)));
@@ -94,7 +91,6 @@ module _ (l : List ℕ) (f : ℕ → Bool) (cap : ℕ) (left taken : List ℕ) (
         ks = g .ks ++ (x ∷ []);
         ts = g .ts;
         within = omega arith;
-        few = g .few;
         so-far = omega (arith, g .so-far);
         left-stored = cc (g .left-stored, g .left-counted, padTo-snoc threads noEntry (g .ks) x (omega (arith, g .left-counted, g .so-far)));
         taken-stored = g .taken-stored;

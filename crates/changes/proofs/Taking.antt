@@ -20,7 +20,7 @@ use Rattle.tables.specs.Steps.{Numbers, changedBy, foundOf, endFirst, requeueFi
 use Rattle.tables.proofs.Sound.{Sound, tables-sound}
 use Rattle.tables.proofs.Stored.{list-numbers, taken-numbers, joins, ends-first, requeues-first}
 use Rattle.layout.specs.Layout.{timeBytes, countAt, listAt, tablesBytes}
-use Rattle.changes.specs.Change.{Writes, Stands, TakenBytes, RequeuedBytes}
+use Rattle.changes.specs.Change.{Writes, Stands, endFound, TakenBytes, RequeuedBytes}
 use Rattle.changes.proofs.Standing.{whole, list-held, count-held}
 use Rattle.changes.proofs.Changing.{whole-change}
 
@@ -56,16 +56,14 @@ module _ (s : State) (b : List ℕ) (h : Stands s b) where
     pub found-joins : (found .left ≡ padTo threads noEntry (take (found .count) (found .left))) × ((found .count + found .moved ≤ threads) × (found .released + found .moved ≤ threads))
     found-joins = joins s sound f cap cap2 found found-are
 
-  pub found-ends : (f : ℕ → Bool) (cap : ℕ) (found : Found) → found ≡ foundOf f cap 0 (arrivals s) → (a : LastAnswer) (mid after : List ℕ)
-      → Writes (changed (End a) (take (found .released) (found .taken))) b mid → Writes (listed (found .left) (found .count)) mid after
-      → TakenBytes (endFirst a f cap s) (found .released) after
-  found-ends f cap found is a mid after first second =
-      let w = whole s (h .sound) in
-      let ts = take (found .released) (found .taken) in
-      let all = ends-first s sound f cap a found is (changed (End a) ts s) refl in
+  -- what the sleeps that a search with one cap ended leave, is what the first cap that pass leave
+  pub found-ends : (f : ℕ → Bool) (cap : ℕ) (found : Found) → found ≡ foundOf f cap 0 (arrivals s) → (a : LastAnswer) (n : ℕ) (after : List ℕ)
+      → (n ≡ found .released) × Writes (endFound found a) b after → TakenBytes (endFirst a f cap s) n after
+  found-ends f cap found is a n after done =
+      let all = ends-first s sound f cap a found is (changed (End a) (take (found .released) (found .taken)) s) refl in
       record {
-        number = ap (λ (t : Taken). t .n) all;
-        bytes = second (changed (End a) ts s) (whole-change (changedBy (End a)) ts s w) (first s w (h .bytes)) ∙ ap (λ (t : Taken). tablesBytes (t .state)) all;
+        number = done .0 ∙ ap (λ (t : Taken). t .n) all;
+        bytes = done .1 s (whole s (h .sound)) (h .bytes) ∙ ap (λ (t : Taken). tablesBytes (t .state)) all;
       }
 
   pub found-requeues : (f : ℕ → Bool) (cap cap2 : ℕ) (found : Found) → found ≡ foundOf f cap cap2 (arrivals s) → (a : ℕ) (l mid next after : List ℕ)

@@ -1,9 +1,9 @@
 -- What a change of the tables does to their bytes.
 use mathlib.Core.Path.{_≡_}
-use mathlib.Core.Bool.{Bool, true}
+use mathlib.Core.Bool.{true}
 use mathlib.Core.List.{List}
 use Prim.Native.Nat.{ℕ, _<_}
-use lib.ListN.{length, set}
+use lib.ListN.{length, take, set}
 use Rattle.tables.specs.declared.State.{State}
 use Rattle.tables.specs.declared.Thread.{Thread}
 use Rattle.tables.specs.declared.Taken.{Taken}
@@ -12,8 +12,7 @@ use Rattle.tables.specs.declared.LastAnswer.{LastAnswer}
 use Rattle.arrivals.specs.declared.Found.{Found}
 use Rattle.changes.specs.declared.Counts.{Counts}
 use Rattle.tables.specs.Sizes.{threads, wordLimit, timeLimit}
-use Rattle.tables.specs.Tables.{threadOf, arrivals, withThreads, tablesOk}
-use Rattle.tables.specs.Steps.{foundOf, endFirst}
+use Rattle.tables.specs.Tables.{threadOf, change, withThreads, ended, tablesOk}
 use Rattle.layout.specs.Layout.{tablesBytes}
 
 -- "64 thread records and one arrival list"
@@ -48,10 +47,10 @@ pub record TakenBytes (t : Taken) (n : ℕ) (after : List ℕ) : Type 0 where
 abbrev pub WritesTaken : (State → Taken) → List ℕ → ℕ → List ℕ → Type 0
 WritesTaken f b n after = (s : State) → Stands s b → TakenBytes (f s) n after
 
--- the same, of a search that has been made: by any test and cap by which it found what it found
-abbrev pub WritesFound : Found → LastAnswer → List ℕ → ℕ → List ℕ → Type 0
-WritesFound found a b n after =
-    (f : ℕ → Bool) (cap : ℕ) (s : State) → Stands s b → found ≡ foundOf f cap 0 (arrivals s) → TakenBytes (endFirst a f cap s) n after
+-- tables in which those run whom a search released, with the answer, and the list is what it left
+abbrev pub endFound : Found → LastAnswer → State → State
+endFound x a s =
+    record { clock = s .clock; threads = change (ended a) (take (x .released) (x .taken)) (s .threads); list = x .left; count = x .count }
 
 -- what a requeue hands back on bytes: how many it released and moved, and the bytes of the tables that it leaves
 pub record RequeuedBytes (t : Requeued) (n : Counts) (after : List ℕ) : Type 0 where

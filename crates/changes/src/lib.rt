@@ -10,7 +10,7 @@ ghost use Rattle.tables.specs.Tables.{threadOf, change, withThreads, withSleep,
 ghost use Rattle.tables.specs.Steps.{Numbers, changedBy, flagged, endFirst, requeueFirst};
 ghost use Rattle.layout.specs.Layout.{lastByte, tablesSize, stateAt, tablesBytes};
 ghost use Rattle.layout.specs.Check.{Held};
-ghost use Rattle.changes.specs.Change.{atThread, Writes, Standing, WritesFound, WritesTaken, WritesRequeued};
+ghost use Rattle.changes.specs.Change.{atThread, Writes, Standing, endFound, WritesTaken, WritesRequeued};
 use arrivals::Found;
 use arrivals::index_of;
 use arrivals::joined;
@@ -124,7 +124,7 @@ fn move_all(b: &mut [u8], ts: [u8; THREADS], from: usize, n: usize, uaddr: u32)
 // Whom a search released runs, with the answer, and the list is what it left; how many. It is called with what a search found.
 pub fn end_found(b: &mut [u8], found: Found, last: LastAnswer) -> u32
     requires { ⌜ (length (now b) ≡ tablesSize) × Numbers (found .taken) (found .released) ⌝ }
-    ensures { λ r. ⌜ WritesFound found last (now (b .entry)) r (now (b .exit)) ⌝ }
+    ensures { λ r. ⌜ (r ≡ found .released) × Writes (endFound found last) (now (b .entry)) (now (b .exit)) ⌝ }
 {
     let taken = found.taken;
     end_all(b, taken, found.released, last);

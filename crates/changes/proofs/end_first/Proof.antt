@@ -6,7 +6,7 @@ use Rattle.tables.specs.Steps.{flagged}
 use Rattle.tables.proofs.Stored.{fewer-numbers}
 use Rattle.layout.specs.Layout.{tablesSize}
 use Rattle.changes.proofs.Standing.{size-held}
-use Rattle.changes.proofs.Taking.{Searched, list-read, found-are, found-numbers}
+use Rattle.changes.proofs.Taking.{Searched, list-read, found-are, found-numbers, found-ends}
 use borrow.Author.Needs.{needs}
 use Rattle.changes.proofs.end_first.Statement.{statement}
 use Rattle.changes.proofs.end_first.Tie as tie
@@ -46,7 +46,8 @@ returns c =
     let e = c .before .before in
     let k = e .before .before in
     let g = k .before .before .before .before .before .before in
-    e .end-found .ensures (flagged (g .args .flags)) (g .args .cap) s h (found-are s (now (g .args .b)) h (searched k))
+    found-ends s (now (g .args .b)) h (flagged (g .args .flags)) (g .args .cap) (k .search .result) (found-are s (now (g .args .b)) h (searched k)) (g .args .last)
+    (e .end-found .result) _ (e .end-found .ensures)
 
 pub end-first-spec : {M : Type 1} → statement M
 end-first-spec = tie.close (tie.spec list-at-requires u64-at-requires search-requires end-found-requires same-length returns)

@@ -1,7 +1,8 @@
-use denote.Ref.{now}
-use mathlib.Core.Path.{_∙_}
+use mathlib.Core.Path.{refl, _∙_}
 use native.Mathlib.Omega.{arith}
-use Rattle.changes.proofs.Taking.{found-ends}
+use lib.ListN.{take}
+use Rattle.tables.specs.Tables.{ended}
+use Rattle.changes.proofs.Changing.{whole-change}
 use borrow.Author.Needs.{needs}
 use Rattle.changes.proofs.end_found.Statement.{statement}
 use Rattle.changes.proofs.end_found.Tie as tie
@@ -20,11 +21,13 @@ same-length c = search needs
 
 returns : tie.Need-returns
 returns c =
-    λ f cap s h is.
     let p = c .before .before .before in
     let e = p .before .before .before .before .before in
     let g = e .before .before .before .before in
-    found-ends s (now (g .args .b)) h f cap (g .args .found) is (g .args .last) _ _ (e .end-all .ensures) (p .put-list .ensures)
+    let ts = take (g .args .found .released) (g .args .found .taken) in (
+      refl,
+      λ s w is. p .put-list .ensures _ (whole-change (ended (g .args .last)) ts s w) (e .end-all .ensures s w is),
+    )
 
 pub end-found-spec : {M : Type 1} → statement M
 end-found-spec = tie.close (tie.spec end-all-requires put-list-requires cast-result same-length returns)

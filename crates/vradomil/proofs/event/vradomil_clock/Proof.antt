@@ -31,6 +31,7 @@ use Rattle.kernel.proofs.Events.{clock-ends}
 use Rattle.layout.proofs.Reading.{clock-read}
 use Rattle.changes.proofs.Writing.{clock-put}
 use Rattle.changes.proofs.Standing.{whole}
+use Rattle.changes.proofs.Taking.{found-ends}
 use borrow.Author.Needs.{needs}
 use Rattle.vradomil.proofs.event.vradomil_clock.Statement.{statement}
 use Rattle.vradomil.proofs.event.vradomil_clock.Tie as tie
@@ -77,7 +78,8 @@ timed-out c =
     let g = start (p .before .before) in
     let s = stateAt (now (g .args .tables)) in
     let stand = stands (now (g .args .tables)) (held p) in
-    ended stand TimedOut _ _ _ _ (c .end-found .ensures (isDue (g .args .time) s) threads s stand (c .before .before .due .ensures))
+    ended stand TimedOut _ _ _ _
+    (found-ends s (now (g .args .tables)) stand (isDue (g .args .time) s) threads (c .before .before .due .result) (c .before .before .due .ensures) TimedOut _ _ (c .end-found .ensures))
 
 judge-buffers-requires : tie.Need-judge-buffers-requires
 judge-buffers-requires c κs = search needs
