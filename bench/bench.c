@@ -2,13 +2,15 @@
  * Times the library against plain.c and tuned.c on the same events: many short batches, the sides by turns, each batch on tables
  * that were copied into place just before, outside the time. Prints the median time of a call and the median ratios; first of the
  * functions that answer a number alone, then (not of the searches) of those that also write a report. With an older library beside
- * it, that is one more side, by its numbers alone both times. It can also make each call of the searches once, for callgrind.
+ * it, that is one more side, by its numbers alone both times, with a dash where it lacks the function. It can also make each call
+ * of the searches once, for callgrind.
  */
 #define _GNU_SOURCE
 #include "kinds.h"
 #include "plain.h"
 #include "tuned.h"
 
+#include <math.h>
 #include <stdbool.h>
 #include <stdio.h>
 #include <stdlib.h>
@@ -25,7 +27,7 @@ enum { BATCH = 24, BATCHES = 40, SAMPLES = BATCHES * BATCH, ROUNDS = 2000 };
 #endif
 enum { PLAIN, TUNED, LIBRARY, BEFORE, SIDES = BEFORE + WITH_BEFORE };
 
-/* A side without reports has null in the second half. */
+/* A side without reports has null in the second half; a library from before priorities has null for the function that sets them. */
 struct kernel {
     const char *name;
     int32_t (*call)(uint8_t *, size_t, uint8_t *, size_t, uint8_t, uint8_t, uint32_t, uint32_t, uint32_t, uint8_t, uint64_t,
@@ -33,16 +35,19 @@ struct kernel {
     int32_t (*store)(const uint8_t *, size_t, uint8_t *, size_t, uint8_t, uint32_t, uint32_t);
     int32_t (*clock)(uint8_t *, size_t, const uint8_t *, size_t, uint64_t);
     int32_t (*interrupt)(uint8_t *, size_t, const uint8_t *, size_t, uint8_t, uint8_t);
+    int32_t (*set_priority)(uint8_t *, size_t, const uint8_t *, size_t, uint8_t, uint8_t, uint8_t);
     uint32_t (*query)(const uint8_t *, size_t, uint8_t);
     int32_t (*call_report)(uint8_t *, size_t, uint8_t *, size_t, uint8_t, uint8_t, uint32_t, uint32_t, uint32_t, uint8_t,
                            uint64_t, uint32_t, uint32_t, uint8_t *, size_t);
     int32_t (*store_report)(const uint8_t *, size_t, uint8_t *, size_t, uint8_t, uint32_t, uint32_t, uint8_t *, size_t);
     int32_t (*clock_report)(uint8_t *, size_t, const uint8_t *, size_t, uint64_t, uint8_t *, size_t);
     int32_t (*interrupt_report)(uint8_t *, size_t, const uint8_t *, size_t, uint8_t, uint8_t, uint8_t *, size_t);
+    int32_t (*set_priority_report)(uint8_t *, size_t, const uint8_t *, size_t, uint8_t, uint8_t, uint8_t, uint8_t *, size_t);
 };
 
-#define NUMBERS(name) name##_call, name##_store, name##_clock, name##_interrupt, name##_query
-#define REPORTS(name) name##_call_report, name##_store_report, name##_clock_report, name##_interrupt_report
+#define NUMBERS(name) name##_call, name##_store, name##_clock, name##_interrupt, name##_set_priority, name##_query
+#define REPORTS(name) \
+    name##_call_report, name##_store_report, name##_clock_report, name##_interrupt_report, name##_set_priority_report
 
 #if WITH_BEFORE
 /* The older library; bench/build gives its functions these names. */
@@ -50,6 +55,7 @@ __typeof__(vradomil_call) before_vradomil_call;
 __typeof__(vradomil_store) before_vradomil_store;
 __typeof__(vradomil_clock) before_vradomil_clock;
 __typeof__(vradomil_interrupt) before_vradomil_interrupt;
+__typeof__(vradomil_set_priority) before_vradomil_set_priority __attribute__((weak)); /* null if it has none */
 __typeof__(vradomil_query) before_vradomil_query;
 #endif
 
@@ -58,7 +64,7 @@ static const struct kernel kernels[SIDES] = {
     [TUNED] = {"tuned", NUMBERS(tuned), REPORTS(tuned)},
     [LIBRARY] = {"library", NUMBERS(vradomil), REPORTS(vradomil)},
 #if WITH_BEFORE
-    [BEFORE] = {"before", NUMBERS(before_vradomil), NULL, NULL, NULL, NULL},
+    [BEFORE] = {"before", NUMBERS(before_vradomil), NULL, NULL, NULL, NULL, NULL},
 #endif
 };
 
@@ -88,47 +94,63 @@ static double now(void)
     return (double)t.tv_sec * 1e9 + (double)t.tv_nsec;
 }
 
-static inline int64_t apply(const struct kernel *k, struct vradomil_tables *tables, uint8_t *w, const struct event *e)
+/* The tables of a library from before priorities are the same bytes, and end where the priorities begin. */
+static size_t tables_length(const struct kernel *k)
 {
-    uint8_t *t = (uint8_t *)tables;
+    return k->set_priority != NULL ? sizeof(struct vradomil_tables) : offsetof(struct vradomil_tables, priority);
+}
+
+static inline int64_t apply(const struct kernel *k, uint8_t *t, size_t length, uint8_t *w, const struct event *e)
+{
     switch (e->function) {
     case CALL:
-        return k->call(t, sizeof *tables, w, VRADOMIL_WORDS_BYTES, e->process, e->index, e->op, e->uaddr, e->val, e->flag,
-                       e->time, e->uaddr2, e->val3);
+        return k->call(t, length, w, VRADOMIL_WORDS_BYTES, e->process, e->index, e->op, e->uaddr, e->val, e->flag, e->time,
+                       e->uaddr2, e->val3);
     case STORE:
-        return k->store(t, sizeof *tables, w, VRADOMIL_WORDS_BYTES, e->process, e->uaddr, e->val);
+        return k->store(t, length, w, VRADOMIL_WORDS_BYTES, e->process, e->uaddr, e->val);
     case CLOCK:
-        return k->clock(t, sizeof *tables, w, VRADOMIL_WORDS_BYTES, e->time);
+        return k->clock(t, length, w, VRADOMIL_WORDS_BYTES, e->time);
     case INTERRUPT:
-        return k->interrupt(t, sizeof *tables, w, VRADOMIL_WORDS_BYTES, e->process, e->index);
+        return k->interrupt(t, length, w, VRADOMIL_WORDS_BYTES, e->process, e->index);
+    case SET_PRIORITY:
+        return k->set_priority(t, length, w, VRADOMIL_WORDS_BYTES, e->process, e->index, e->priority);
     default:
-        return k->query(t, sizeof *tables, e->process);
+        return k->query(t, length, e->process);
     }
 }
 
-static inline int64_t apply_report(const struct kernel *k, struct vradomil_tables *tables, uint8_t *w, const struct event *e,
+static inline int64_t apply_report(const struct kernel *k, uint8_t *t, size_t length, uint8_t *w, const struct event *e,
                                    struct vradomil_report *report)
 {
-    uint8_t *t = (uint8_t *)tables, *r = (uint8_t *)report;
+    uint8_t *r = (uint8_t *)report;
     switch (e->function) {
     case CALL:
-        return k->call_report(t, sizeof *tables, w, VRADOMIL_WORDS_BYTES, e->process, e->index, e->op, e->uaddr, e->val, e->flag,
-                              e->time, e->uaddr2, e->val3, r, sizeof *report);
+        return k->call_report(t, length, w, VRADOMIL_WORDS_BYTES, e->process, e->index, e->op, e->uaddr, e->val, e->flag, e->time,
+                              e->uaddr2, e->val3, r, sizeof *report);
     case STORE:
-        return k->store_report(t, sizeof *tables, w, VRADOMIL_WORDS_BYTES, e->process, e->uaddr, e->val, r, sizeof *report);
+        return k->store_report(t, length, w, VRADOMIL_WORDS_BYTES, e->process, e->uaddr, e->val, r, sizeof *report);
     case CLOCK:
-        return k->clock_report(t, sizeof *tables, w, VRADOMIL_WORDS_BYTES, e->time, r, sizeof *report);
+        return k->clock_report(t, length, w, VRADOMIL_WORDS_BYTES, e->time, r, sizeof *report);
     case INTERRUPT:
-        return k->interrupt_report(t, sizeof *tables, w, VRADOMIL_WORDS_BYTES, e->process, e->index, r, sizeof *report);
+        return k->interrupt_report(t, length, w, VRADOMIL_WORDS_BYTES, e->process, e->index, r, sizeof *report);
+    case SET_PRIORITY:
+        return k->set_priority_report(t, length, w, VRADOMIL_WORDS_BYTES, e->process, e->index, e->priority, r, sizeof *report);
     default:
-        return k->query(t, sizeof *tables, e->process);
+        return k->query(t, length, e->process);
     }
+}
+
+/* Whether a side has the function that the samples call. */
+static bool takes_part(size_t side)
+{
+    return samples[0].event.function != SET_PRIORITY || kernels[side].set_priority != NULL;
 }
 
 /* One batch on one side: nanoseconds a call. */
 static double run_batch(const struct kernel *k, struct side *s, const struct sample *first, bool report, double timer)
 {
     uint8_t *words = (uint8_t *)s->words;
+    size_t length = tables_length(k);
     for (size_t i = 0; i < BATCH; i++) {
         s->tables[i] = first[i].tables;
         s->reports[i].reason = STALE;
@@ -136,10 +158,10 @@ static double run_batch(const struct kernel *k, struct side *s, const struct sam
     double start = now();
     if (report && k->call_report != NULL)
         for (size_t i = 0; i < BATCH; i++)
-            s->answers[i] = apply_report(k, &s->tables[i], words, &first[i].event, &s->reports[i]);
+            s->answers[i] = apply_report(k, (uint8_t *)&s->tables[i], length, words, &first[i].event, &s->reports[i]);
     else
         for (size_t i = 0; i < BATCH; i++)
-            s->answers[i] = apply(k, &s->tables[i], words, &first[i].event);
+            s->answers[i] = apply(k, (uint8_t *)&s->tables[i], length, words, &first[i].event);
     return (now() - start - timer) / BATCH;
 }
 
@@ -149,11 +171,16 @@ static void fail(const struct kind *kind, int side, const char *what)
     exit(1);
 }
 
-/* Each side must have answered and reported as the library, as the kind says, and left the same bytes. */
+/*
+ * Each side must have answered and reported as the library, as the kind says, and left the same bytes; the priorities too where an
+ * older library was not lent them, for no event that it has changes one.
+ */
 static void check(const struct kind *kind, bool report)
 {
     const struct side *library = &sides[LIBRARY];
     for (int side = 0; side < SIDES; side++) {
+        if (!takes_part(side))
+            continue;
         uint8_t reason = report && kernels[side].call_report != NULL ? kind->reason : STALE;
         for (size_t i = 0; i < BATCH; i++) {
             int64_t answer = sides[side].answers[i];
@@ -201,16 +228,25 @@ static void prepare(const struct cell *cell)
             sides[side].words[i] = WORD_VALUE;
 }
 
-/* The next batch on all sides: nanoseconds a call. */
+/* The next batch on all sides: nanoseconds a call, no number where a side takes no part. */
 static void run_round(const struct cell *cell, size_t round, bool report, double timer, double times[SIDES])
 {
     const struct sample *first = &samples[round % batches * BATCH];
     size_t step = round / SIDES % 2 ? SIDES - 1 : 1; /* each side at each place, both ways round */
     for (size_t turn = 0; turn < SIDES; turn++) {
         size_t side = (round + turn * step) % SIDES;
-        times[side] = run_batch(&kernels[side], &sides[side], first, report, timer);
+        times[side] = takes_part(side) ? run_batch(&kernels[side], &sides[side], first, report, timer) : NAN;
     }
     check(&cell->suite->kinds[cell->kind], report);
+}
+
+/* In its column, or a dash. */
+static void print_figure(double figure, int width, int digits)
+{
+    if (isnan(figure))
+        printf(" %*s", width, "-");
+    else
+        printf(" %*.*f", width, digits, figure);
 }
 
 /* Prints one line; gives the library's time over that of each side. */
@@ -228,11 +264,11 @@ static void measure(const struct cell *cell, bool report, double timer, double o
     }
     printf("%-24s %8d", cell->suite->kinds[cell->kind].name, cell->sleepers);
     for (int side = 0; side < SIDES; side++)
-        printf(" %10.1f", median(times[side], ROUNDS));
+        print_figure(median(times[side], ROUNDS), 10, 1);
     for (int side = 0; side < SIDES; side++) {
         over[side] = median(ratios[side], ROUNDS);
         if (side != LIBRARY)
-            printf(" %14.2f", over[side]);
+            print_figure(over[side], 14, 2);
     }
     printf("\n");
 }
@@ -265,18 +301,19 @@ static void measure_all(const struct suite *suite, const char *title, bool repor
 {
     struct cell cells[MOST_CELLS];
     double over[SIDES], all[SIDES][MOST_CELLS];
-    size_t n = list_cells(suite, cells);
+    size_t n = list_cells(suite, cells), figures[SIDES] = {0};
     headings();
     for (size_t k = 0; k < n; k++) {
         measure(&cells[k], report, timer, over);
         for (int side = 0; side < SIDES; side++)
-            all[side][k] = over[side];
+            if (!isnan(over[side]))
+                all[side][figures[side]++] = over[side];
     }
     for (int side = 0; side < SIDES; side++) {
-        double middle = median(all[side], n);
+        double middle = median(all[side], figures[side]);
         if (side != LIBRARY)
             printf("%s library/%s: median %.2f, lowest %.2f, highest %.2f", side == 0 ? title : ";", kernels[side].name, middle,
-                   all[side][0], all[side][n - 1]);
+                   all[side][0], all[side][figures[side] - 1]);
     }
     printf("\n");
 }

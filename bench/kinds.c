@@ -1,7 +1,7 @@
 #include "samples.h"
 
 enum { REFUSED_11, REFUSED_22, REFUSED_CAP2, REFUSED_SAME, WAIT, WAKE_ONE, WAKE_ALL, WAKE_NOBODY, REQUEUE, WAKE_OP, STORED,
-       CLOCK_NONE, CLOCK_HALF, INTERRUPTED, QUERIED, KINDS };
+       CLOCK_NONE, CLOCK_HALF, INTERRUPTED, SET_RUNNING, SET_ASLEEP, SET_REFUSED, QUERIED, KINDS };
 
 static const struct kind kinds[KINDS] = {
     [REFUSED_11] = {"refused -11", 0, -11, -11},
@@ -18,9 +18,17 @@ static const struct kind kinds[KINDS] = {
     [CLOCK_NONE] = {"clock ends none", 0, 0, 0},
     [CLOCK_HALF] = {"clock ends half", 1, 0, 63},
     [INTERRUPTED] = {"interrupt of a sleeper", 1, 1, 1},
+    [SET_RUNNING] = {"set_priority, running", 0, 0, 0},
+    [SET_ASLEEP] = {"set_priority, asleep", 1, 0, 0},
+    [SET_REFUSED] = {"set_priority -22", 0, -22, -22, VRADOMIL_REASON_PRIORITY},
     [QUERIED] = {"query", 0, 0, UINT32_MAX, STALE},
 };
 _Static_assert(sizeof kinds / sizeof *kinds <= MOST_KINDS, "not too many for a suite");
+
+static struct event make_set_priority(uint8_t thread, uint64_t priority)
+{
+    return (struct event){.function = SET_PRIORITY, .process = thread / 8, .index = thread % 8, .priority = (uint8_t)priority};
+}
 
 static struct event make_other(const struct vradomil_tables *t, int kind, uint8_t caller)
 {
@@ -33,6 +41,12 @@ static struct event make_other(const struct vradomil_tables *t, int kind, uint8_
         return (struct event){.function = CLOCK, .time = t->clock + (kind == CLOCK_NONE ? 0 : 100)};
     case INTERRUPTED:
         return (struct event){.function = INTERRUPT, .process = sleeper / 8, .index = sleeper % 8};
+    case SET_RUNNING:
+        return make_set_priority(caller, draw() % (VRADOMIL_MAX_PRIORITY + 1));
+    case SET_ASLEEP:
+        return make_set_priority(sleeper, draw() % (VRADOMIL_MAX_PRIORITY + 1));
+    case SET_REFUSED:
+        return make_set_priority(caller, VRADOMIL_MAX_PRIORITY + 1 + draw() % (UINT8_MAX - VRADOMIL_MAX_PRIORITY));
     default:
         return (struct event){.function = QUERY, .process = caller / 8};
     }

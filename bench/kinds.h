@@ -4,11 +4,11 @@
 
 #include "../include/vradomil.h"
 
-enum function { CALL, STORE, CLOCK, INTERRUPT, QUERY };
+enum function { CALL, STORE, CLOCK, INTERRUPT, SET_PRIORITY, QUERY };
 
 struct event {
     enum function function;
-    uint8_t process, index, flag;
+    uint8_t process, index, flag, priority;
     uint32_t op, uaddr, val, uaddr2, val3;
     uint64_t time;
 };
@@ -36,7 +36,7 @@ struct suite {
     struct event (*make_event)(struct vradomil_tables *t, int kind, uint8_t caller); /* may change the tables */
 };
 
-enum { MOST_KINDS = 15 };
+enum { MOST_KINDS = 18 };
 extern const struct suite events, searches;
 
 /* The words that the events read hold this number. */

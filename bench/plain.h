@@ -17,6 +17,8 @@ int32_t plain_store(const uint8_t *tables, size_t tables_len, uint8_t *words, si
 int32_t plain_clock(uint8_t *tables, size_t tables_len, const uint8_t *words, size_t words_len, uint64_t time);
 int32_t plain_interrupt(uint8_t *tables, size_t tables_len, const uint8_t *words, size_t words_len, uint8_t process,
                         uint8_t index);
+int32_t plain_set_priority(uint8_t *tables, size_t tables_len, const uint8_t *words, size_t words_len, uint8_t process,
+                           uint8_t index, uint8_t priority);
 uint32_t plain_query(const uint8_t *tables, size_t tables_len, uint8_t process);
 int32_t plain_call_report(uint8_t *tables, size_t tables_len, uint8_t *words, size_t words_len, uint8_t process, uint8_t index,
                           uint32_t op, uint32_t uaddr, uint32_t val, uint8_t flag, uint64_t timeout, uint32_t uaddr2,
@@ -27,5 +29,7 @@ int32_t plain_clock_report(uint8_t *tables, size_t tables_len, const uint8_t *wo
                            uint8_t *report, size_t report_len);
 int32_t plain_interrupt_report(uint8_t *tables, size_t tables_len, const uint8_t *words, size_t words_len, uint8_t process,
                                uint8_t index, uint8_t *report, size_t report_len);
+int32_t plain_set_priority_report(uint8_t *tables, size_t tables_len, const uint8_t *words, size_t words_len,
+                                  uint8_t process, uint8_t index, uint8_t priority, uint8_t *report, size_t report_len);
 
 #endif

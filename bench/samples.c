@@ -44,6 +44,7 @@ static void make_tables(struct vradomil_tables *t, uint8_t caller, int sleepers)
     t->clock = 1000 + draw() % 1000;
     for (uint8_t thread = 0; thread < VRADOMIL_THREADS; thread++) {
         t->last[thread] = draw() % 4;
+        t->priority[thread] = draw() % (VRADOMIL_MAX_PRIORITY + 1);
         if (thread != caller && thread != first && thread != second)
             order[n++] = thread;
     }

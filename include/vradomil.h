@@ -1,7 +1,7 @@
 /*
  * Vradomil: a futex kernel for eight fixed processes of eight threads each.
  *
- * The host lends the kernel two buffers for the length of one call: the tables (1,296 bytes) and the futex words of all processes
+ * The host lends the kernel two buffers for the length of one call: the tables (1,360 bytes) and the futex words of all processes
  * (32,768 bytes); to a function whose name ends in _report also a third, for the report, which the kernel only writes. The kernel
  * keeps nothing of its own between calls, so a host may have several displays in one program.
  *
@@ -31,11 +31,14 @@ extern "C" {
 /* Each process has 1,024 words, at byte addresses 0, 4, .. 4092; the word at address a of process p is word 1024 * p + a / 4. */
 #define VRADOMIL_WORDS_PER_PROCESS 1024
 #define VRADOMIL_WORDS 8192
-#define VRADOMIL_TABLES_BYTES 1296
+#define VRADOMIL_TABLES_BYTES 1360
 #define VRADOMIL_WORDS_BYTES 32768
 
 /* What stands in the arrival list where no thread does. */
 #define VRADOMIL_NO_ENTRY 255
+
+/* The highest base priority. Every thread starts with 0. */
+#define VRADOMIL_MAX_PRIORITY 31
 
 /* The answer of a call that put its thread to sleep. No count is ever as high (theorem count-below-asleep). */
 #define VRADOMIL_ASLEEP 2147483647
@@ -80,7 +83,7 @@ extern "C" {
 
 /* The refusals, in the order in which they are tested; the first that applies answers. They are errno numbers, negated. */
 #define VRADOMIL_ENXIO (-6)       /* the words are not 32,768 bytes */
-#define VRADOMIL_EBADF (-9)       /* the tables are not 1,296 bytes, have a byte that stands for nothing, or break a table rule */
+#define VRADOMIL_EBADF (-9)       /* the tables are not 1,360 bytes, have a byte that stands for nothing, or break a table rule */
 #define VRADOMIL_ESRCH (-3)       /* the process or the index is above 7 */
 #define VRADOMIL_EBUSY (-16)      /* the calling thread is asleep */
 #define VRADOMIL_ENOSYS (-38)     /* unknown command or option; also, but after -14, an undefined part of WAKE_OP's val3 */
@@ -104,6 +107,7 @@ extern "C" {
 #define VRADOMIL_REASON_UADDR2 5     /* uaddr2 is not a multiple of 4: REQUEUE, CMP_REQUEUE, WAKE_OP */
 #define VRADOMIL_REASON_SAME_UADDR 6 /* uaddr2 is uaddr: REQUEUE, CMP_REQUEUE */
 #define VRADOMIL_REASON_CLOCK 7      /* the time of a clock event is before the clock */
+#define VRADOMIL_REASON_PRIORITY 8   /* the priority to be set is above 31 */
 
 /* How the answer of a thread's last ended sleep stands in the tables. */
 #define VRADOMIL_LAST_NONE 0
@@ -125,6 +129,7 @@ struct vradomil_tables {
     uint32_t uaddr[VRADOMIL_THREADS];          /* the address that a sleeper waits at */
     uint32_t bitset[VRADOMIL_THREADS];         /* its mask */
     uint64_t deadline[VRADOMIL_THREADS];       /* on the kernel's clock */
+    uint8_t priority[VRADOMIL_THREADS];        /* the base priority, 0 to 31 */
 };
 
 /* What a report says beside the answer, laid over its bytes. Later versions may add fields, at the end only. */
@@ -136,7 +141,7 @@ struct vradomil_report {
 #ifdef __BYTE_ORDER__
 VRADOMIL_ASSERT(__BYTE_ORDER__ == __ORDER_LITTLE_ENDIAN__, "the numbers in tables and words are little-endian");
 #endif
-VRADOMIL_ASSERT(sizeof(struct vradomil_tables) == VRADOMIL_TABLES_BYTES, "1,296 bytes, no padding");
+VRADOMIL_ASSERT(sizeof(struct vradomil_tables) == VRADOMIL_TABLES_BYTES, "1,360 bytes, no padding");
 VRADOMIL_ASSERT(offsetof(struct vradomil_tables, clock) == 0, "clock at 0");
 VRADOMIL_ASSERT(offsetof(struct vradomil_tables, count) == 8, "count at 8");
 VRADOMIL_ASSERT(offsetof(struct vradomil_tables, list) == 16, "list at 16");
@@ -146,13 +151,15 @@ VRADOMIL_ASSERT(offsetof(struct vradomil_tables, last) == 208, "last answer at 2
 VRADOMIL_ASSERT(offsetof(struct vradomil_tables, uaddr) == 272, "uaddr at 272");
 VRADOMIL_ASSERT(offsetof(struct vradomil_tables, bitset) == 528, "bitset at 528");
 VRADOMIL_ASSERT(offsetof(struct vradomil_tables, deadline) == 784, "deadline at 784");
+VRADOMIL_ASSERT(offsetof(struct vradomil_tables, priority) == 1296, "priority at 1296");
 VRADOMIL_ASSERT(4 * VRADOMIL_WORDS == VRADOMIL_WORDS_BYTES, "8,192 words of 32 bits");
 VRADOMIL_ASSERT(sizeof(struct vradomil_report) == VRADOMIL_REPORT_BYTES, "1 byte, no padding");
 VRADOMIL_ASSERT(offsetof(struct vradomil_report, reason) == 0, "reason at 0");
 
 /*
- * Lays down the fresh tables: clock 0, all threads running, no sleep ended yet, the list empty. The words may start as anything.
- * Answers 0, or -9 if tables_len is not 1,296, and then writes nothing.
+ * Lays down the fresh tables: clock 0, all threads running, no sleep ended yet, all priorities 0, the list empty. The words may
+ * start as anything.
+ * Answers 0, or -9 if tables_len is not 1,360, and then writes nothing.
  */
 int32_t vradomil_fresh(uint8_t *tables, size_t tables_len);
 
@@ -202,7 +209,15 @@ int32_t vradomil_interrupt(uint8_t *tables, size_t tables_len, const uint8_t *wo
                            uint8_t index);
 
 /*
- * The four events once more, with a report: each does and answers what the function without _report does, and also writes as many
+ * Sets the base priority of thread (process, index), asleep or not; 31 is the highest. It stays until it is set again: no other
+ * event changes it. It is kept in the tables and has no effect yet on whom a wake takes.
+ * Answers 0, or -6, -9, -3 or -22 (VRADOMIL_REASON_PRIORITY: above 31), and then changes nothing.
+ */
+int32_t vradomil_set_priority(uint8_t *tables, size_t tables_len, const uint8_t *words, size_t words_len, uint8_t process,
+                              uint8_t index, uint8_t priority);
+
+/*
+ * The five events once more, with a report: each does and answers what the function without _report does, and also writes as many
  * bytes of the report as report_len has room for, none if it is 0. It writes them with every answer, so that nothing of an earlier
  * event stays there; bytes behind the report stay as they were. Lend it a struct vradomil_report and the struct's own size: the
  * host then goes on working, without being compiled again, with a later library whose report is longer. A query has no report.
@@ -216,6 +231,8 @@ int32_t vradomil_clock_report(uint8_t *tables, size_t tables_len, const uint8_t 
                               uint8_t *report, size_t report_len);
 int32_t vradomil_interrupt_report(uint8_t *tables, size_t tables_len, const uint8_t *words, size_t words_len, uint8_t process,
                                   uint8_t index, uint8_t *report, size_t report_len);
+int32_t vradomil_set_priority_report(uint8_t *tables, size_t tables_len, const uint8_t *words, size_t words_len,
+                                     uint8_t process, uint8_t index, uint8_t priority, uint8_t *report, size_t report_len);
 
 /*
  * Which threads of a process sleep. Changes nothing and is never refused.
@@ -310,6 +327,8 @@ static inline const char *vradomil_reason_text(uint8_t reason)
         return "uaddr and uaddr2 are the same";
     case VRADOMIL_REASON_CLOCK:
         return "the clock went back";
+    case VRADOMIL_REASON_PRIORITY:
+        return "the priority is above 31";
     default:
         return "not a reason";
     }

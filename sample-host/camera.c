@@ -35,6 +35,7 @@ static uint32_t own_word(const struct host *h, uint32_t address)
     return value;
 }
 
+/* The process is put in here, where the camera has no say: it can ask for its own threads only. */
 static int32_t one_event(struct host *h, struct flood *flood, struct vradomil_report *report)
 {
     uint8_t *tables = (uint8_t *)&h->tables, *r = (uint8_t *)report;
@@ -48,6 +49,9 @@ static int32_t one_event(struct host *h, struct flood *flood, struct vradomil_re
         return vradomil_store_report(tables, sizeof h->tables, h->words, sizeof h->words, CAMERA, uaddr, val, r, sizeof *report);
     case 1:
         return vradomil_interrupt_report(tables, sizeof h->tables, h->words, sizeof h->words, CAMERA, index, r, sizeof *report);
+    case 2: /* half of the priorities are too high */
+        return vradomil_set_priority_report(tables, sizeof h->tables, h->words, sizeof h->words, CAMERA, index,
+                                            (uint8_t)(draw(flood) % 64), r, sizeof *report);
     default:
         return vradomil_call_report(tables, sizeof h->tables, h->words, sizeof h->words, CAMERA, index, command, uaddr, val, flag,
                                     timeout, uaddr2, val3, r, sizeof *report);

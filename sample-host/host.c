@@ -130,6 +130,14 @@ void host_interrupt(struct host *h, uint8_t process, uint8_t index)
         host_collect(h);
 }
 
+void host_set_priority(struct host *h, uint8_t process, uint8_t index, uint8_t priority)
+{
+    struct vradomil_report report;
+    int32_t answer = vradomil_set_priority_report(tables(h), sizeof h->tables, h->words, sizeof h->words, process, index, priority,
+                                                  (uint8_t *)&report, sizeof report);
+    granted("priority", answer, report);
+}
+
 uint32_t load(const struct host *h, uint32_t address)
 {
     uint32_t value;

@@ -1,6 +1,6 @@
 /*
  * A small host: it owns the tables and the words, runs the threads of several processes by turns on one CPU, and hands every
- * futex call, store, clock tick and interrupt to the library.
+ * futex call, store, clock tick, interrupt and priority to the library.
  */
 #ifndef HOST_H
 #define HOST_H
@@ -53,6 +53,7 @@ void host_spawn(struct host *h, uint8_t process, uint8_t index, program_t *progr
 void host_turns(struct host *h);
 void host_clock(struct host *h, uint64_t time);
 void host_interrupt(struct host *h, uint8_t process, uint8_t index);
+void host_set_priority(struct host *h, uint8_t process, uint8_t index, uint8_t priority);
 /* To be told of every answer above 0: some thread may run again. */
 void host_collect(struct host *h);
 

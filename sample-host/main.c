@@ -11,6 +11,9 @@
 
 enum { TICKS = 50, TICK = 10, FLOOD_PER_TICK = 200 };
 
+/* The base priorities of each process's threads. The library keeps them; whom a wake takes doesn't depend on them yet. */
+enum { CAMERA_PRIORITY = 0, MAP_PRIORITY = 10, SECTIONS_PRIORITY = 20, STOP_KEY_PRIORITY = VRADOMIL_MAX_PRIORITY };
+
 static void spawn_all(struct host *h)
 {
     host_spawn(h, MAP, 0, map_loader);
@@ -22,10 +25,24 @@ static void spawn_all(struct host *h)
     host_spawn(h, STOP_KEY, 1, key_presser);
 }
 
+static void set_priorities(struct host *h)
+{
+    static const uint8_t priorities[] = {
+        [CAMERA] = CAMERA_PRIORITY,
+        [MAP] = MAP_PRIORITY,
+        [SECTIONS] = SECTIONS_PRIORITY,
+        [STOP_KEY] = STOP_KEY_PRIORITY,
+    };
+    for (uint8_t process = CAMERA; process <= STOP_KEY; process++)
+        for (uint8_t index = 0; index < VRADOMIL_THREADS_PER_PROCESS; index++)
+            host_set_priority(h, process, index, priorities[process]);
+}
+
 static void run(struct host *h, struct flood *flood)
 {
     host_start(h);
     spawn_all(h);
+    set_priorities(h);
     for (unsigned tick = 1; tick <= TICKS; tick++) {
         if (flood != NULL)
             camera_flood(h, flood, FLOOD_PER_TICK / 2);
@@ -57,7 +74,8 @@ static bool same(const struct host *a, const struct host *b)
     bool equal = n == sleepers(u, order[1]) && memcmp(order[0], order[1], n) == 0;
     for (size_t k = 8 * (CAMERA + 1); k < VRADOMIL_THREADS; k++)
         equal = equal && t->waiting[k] == u->waiting[k] && t->timed[k] == u->timed[k] && t->last[k] == u->last[k] &&
-                t->uaddr[k] == u->uaddr[k] && t->bitset[k] == u->bitset[k] && t->deadline[k] == u->deadline[k];
+                t->uaddr[k] == u->uaddr[k] && t->bitset[k] == u->bitset[k] && t->deadline[k] == u->deadline[k] &&
+                t->priority[k] == u->priority[k];
     size_t others = 4096 * (CAMERA + 1);
     return equal && memcmp(a->words + others, b->words + others, sizeof a->words - others) == 0 && a->traced == b->traced &&
            memcmp(a->trace, b->trace, a->traced) == 0;

@@ -72,11 +72,11 @@ static uint8_t small(void)
     return (uint8_t)(draw() % 8 ? draw() % 8 : draw());
 }
 
-enum function { STORE, CLOCK, INTERRUPT, QUERY, CALL };
+enum function { STORE, CLOCK, INTERRUPT, SET_PRIORITY, QUERY, CALL };
 
 struct event {
     enum function function;
-    uint8_t process, index, flag;
+    uint8_t process, index, flag, priority;
     uint32_t op, uaddr, val, uaddr2, val3;
     uint64_t time;
 };
@@ -88,6 +88,7 @@ static struct event make_event(void)
     uint64_t function = draw() % 12;
     e.function = function < CALL ? (enum function)function : CALL;
     e.op = draw() % 16 ? ops[draw() % 9] | (draw() % 4 ? 0 : 128) : (uint32_t)draw();
+    e.priority = (uint8_t)(draw() % 8 ? draw() % 40 : draw());
     e.val = draw() % 8 ? 0 : number();
     e.val3 = number();
     e.time = draw() % 8 ? draw() % 64 : draw();
@@ -103,6 +104,8 @@ static int64_t ask(struct buffer t, struct buffer w, struct event e)
         return vradomil_clock(t.bytes, t.length, w.bytes, w.length, e.time);
     case INTERRUPT:
         return vradomil_interrupt(t.bytes, t.length, w.bytes, w.length, e.process, e.index);
+    case SET_PRIORITY:
+        return vradomil_set_priority(t.bytes, t.length, w.bytes, w.length, e.process, e.index, e.priority);
     case QUERY:
         return vradomil_query(t.bytes, t.length, e.process);
     default:
@@ -120,6 +123,9 @@ static int64_t ask_report(struct buffer t, struct buffer w, struct event e, stru
         return vradomil_clock_report(t.bytes, t.length, w.bytes, w.length, e.time, r.bytes, r.length);
     case INTERRUPT:
         return vradomil_interrupt_report(t.bytes, t.length, w.bytes, w.length, e.process, e.index, r.bytes, r.length);
+    case SET_PRIORITY:
+        return vradomil_set_priority_report(t.bytes, t.length, w.bytes, w.length, e.process, e.index, e.priority, r.bytes,
+                                            r.length);
     default:
         return vradomil_call_report(t.bytes, t.length, w.bytes, w.length, e.process, e.index, e.op, e.uaddr, e.val, e.flag, e.time,
                                     e.uaddr2, e.val3, r.bytes, r.length);
@@ -136,7 +142,7 @@ static void fail(const char *what)
 static void check_report(struct buffer r, int64_t answer)
 {
     size_t written = r.length < VRADOMIL_REPORT_BYTES ? r.length : VRADOMIL_REPORT_BYTES;
-    if (written != 0 && (r.bytes[0] > VRADOMIL_REASON_CLOCK || (r.bytes[0] != 0) != (answer == VRADOMIL_EINVAL)))
+    if (written != 0 && (r.bytes[0] > VRADOMIL_REASON_PRIORITY || (r.bytes[0] != 0) != (answer == VRADOMIL_EINVAL)))
         fail("a report has a wrong reason");
     if (memcmp(r.before + written, r.bytes + written, r.length - written) != 0)
         fail("a byte behind a report was changed");

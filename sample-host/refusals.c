@@ -42,4 +42,7 @@ void show_refusals(struct host *h)
     host_clock(h, 10);
     answer = vradomil_clock_report(tables, sizeof h->tables, h->words, sizeof h->words, 9, (uint8_t *)&report, sizeof report);
     show("clock 9 after 10", answer, report);
+    answer = vradomil_set_priority_report(tables, sizeof h->tables, h->words, sizeof h->words, 0, 0, 32, (uint8_t *)&report,
+                                          sizeof report);
+    show("set_priority 32", answer, report);
 }

@@ -2,8 +2,8 @@
 //! wake, move and time out, and arguments at the edges of every field.
 
 use second::model::{
-    Call, Event, State, CMP_REQUEUE, REQUEUE, THREADS, THREADS_PER_PROCESS, WAIT, WAIT_BITSET,
-    WAKE, WAKE_BITSET, WAKE_OP, WORDS_PER_PROCESS,
+    Call, Event, State, CMP_REQUEUE, HIGHEST_PRIORITY, REQUEUE, THREADS, THREADS_PER_PROCESS, WAIT,
+    WAIT_BITSET, WAKE, WAKE_BITSET, WAKE_OP, WORDS_PER_PROCESS,
 };
 use second::rng::Rng;
 use second::shorthand;
@@ -85,6 +85,7 @@ const EDGE_OPS: &[u32] = &[
     u32::MAX,
 ];
 const EDGE_U8: &[u8] = &[0, 1, 7, 8, 9, 63, 64, 127, 128, 255];
+const EDGE_PRIORITIES: &[u8] = &[0, 1, 30, 31, 32, 33, 63, 64, 95, 127, 128, 159, 254, 255];
 /// Few addresses, so that sleepers meet.
 pub const ADDRESSES: &[u32] = &[0, 0, 4, 4, 8, 12, 2048, 4088, 4092];
 pub const MASKS: &[u32] = &[1, 2, 3, 4, 6, 1 << 31, u32::MAX];
@@ -98,7 +99,8 @@ pub struct Mood {
     waits: u64,
     /// Of a hundred events, how many have an argument at an edge.
     edges: u64,
-    /// Of a hundred calls, how many have arguments that -22 refuses.
+    /// Of a hundred events, how many have arguments that -22 refuses, if they are
+    /// calls or set a priority.
     faults: u64,
     /// Of a hundred events, how many are no calls.
     others: u64,
@@ -140,11 +142,9 @@ pub fn next(rng: &mut Rng, mood: Mood, state: &State, words: &[u32]) -> Event {
             put_edge(rng, &mut event);
         }
     }
-    if let Event::Call(call) = &mut event {
-        if rng.percent(mood.faults) {
-            for _ in 0..1 + rng.below(3) {
-                put_fault(rng, call);
-            }
+    if rng.percent(mood.faults) {
+        for _ in 0..1 + rng.below(3) {
+            put_fault(rng, &mut event);
         }
     }
     event
@@ -153,11 +153,20 @@ pub fn next(rng: &mut Rng, mood: Mood, state: &State, words: &[u32]) -> Event {
 fn other(rng: &mut Rng, mood: Mood, state: &State) -> Event {
     let process = rng.below(mood.processes) as u8;
     let index = rng.below(8) as u8;
-    match rng.below(10) {
+    match rng.below(14) {
         0..=2 => Event::Store { process, address: rng.pick(ADDRESSES), value: small(rng) },
         3..=5 => Event::Clock { time: time_near(rng, state) },
         6..=7 => Event::Interrupt { process, index },
-        _ => Event::Query { process },
+        8..=9 => Event::Query { process },
+        _ => Event::SetPriority { process, index, priority: priority(rng) },
+    }
+}
+
+/// One that can be set; the ends come often, so that some are equal.
+pub fn priority(rng: &mut Rng) -> u8 {
+    match rng.below(4) {
+        0 => rng.pick(&[0, 0, 1, HIGHEST_PRIORITY]),
+        _ => rng.below(1 + u64::from(HIGHEST_PRIORITY)) as u8,
     }
 }
 
@@ -329,12 +338,29 @@ fn put_edge(rng: &mut Rng, event: &mut Event) {
             0 => *process = rng.pick(EDGE_U8),
             _ => *index = rng.pick(EDGE_U8),
         },
+        Event::SetPriority { process, index, priority } => match rng.below(3) {
+            0 => *process = rng.pick(EDGE_U8),
+            1 => *index = rng.pick(EDGE_U8),
+            _ => *priority = rng.pick(EDGE_PRIORITIES),
+        },
         Event::Query { process } => *process = rng.pick(EDGE_U8),
     }
 }
 
-/// Gives one argument a value that -22 refuses, if the command uses it.
-fn put_fault(rng: &mut Rng, call: &mut Call) {
+/// Gives one argument a value that -22 refuses. Stores and clock events have
+/// theirs among the edges.
+fn put_fault(rng: &mut Rng, event: &mut Event) {
+    match event {
+        Event::Call(call) => put_call_fault(rng, call),
+        Event::SetPriority { priority, .. } => {
+            *priority = 1 + HIGHEST_PRIORITY + rng.below(255 - u64::from(HIGHEST_PRIORITY)) as u8;
+        }
+        _ => {}
+    }
+}
+
+/// It is refused only if the command uses the argument.
+fn put_call_fault(rng: &mut Rng, call: &mut Call) {
     let above = &[1 << 31, (1 << 31) + 1, u32::MAX];
     match rng.below(6) {
         0 => call.val = rng.pick(above),

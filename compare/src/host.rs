@@ -43,6 +43,15 @@ extern "C" {
         process: u8,
         index: u8,
     ) -> i32;
+    fn vradomil_set_priority(
+        tables: *mut u8,
+        tables_len: usize,
+        words: *const u8,
+        words_len: usize,
+        process: u8,
+        index: u8,
+        priority: u8,
+    ) -> i32;
     fn vradomil_query(tables: *const u8, tables_len: usize, process: u8) -> u32;
     fn vradomil_call_report(
         tables: *mut u8,
@@ -91,6 +100,17 @@ extern "C" {
         report: *mut u8,
         report_len: usize,
     ) -> i32;
+    fn vradomil_set_priority_report(
+        tables: *mut u8,
+        tables_len: usize,
+        words: *const u8,
+        words_len: usize,
+        process: u8,
+        index: u8,
+        priority: u8,
+        report: *mut u8,
+        report_len: usize,
+    ) -> i32;
 }
 
 pub fn fresh(tables: &mut [u8]) -> i64 {
@@ -111,6 +131,9 @@ pub fn step(tables: &mut [u8], words: &mut [u8], event: &Event) -> i64 {
         Event::Interrupt { process, index } => unsafe {
             vradomil_interrupt(t, t_len, w, w_len, process, index) as i64
         },
+        Event::SetPriority { process, index, priority } => unsafe {
+            vradomil_set_priority(t, t_len, w, w_len, process, index, priority) as i64
+        },
         Event::Query { process } => unsafe { vradomil_query(t, t_len, process) as i64 },
     }
 }
@@ -130,6 +153,10 @@ pub fn step_report(tables: &mut [u8], words: &mut [u8], event: &Event, report: &
         },
         Event::Interrupt { process, index } => unsafe {
             vradomil_interrupt_report(t, t_len, w, w_len, process, index, r, r_len) as i64
+        },
+        Event::SetPriority { process, index, priority } => unsafe {
+            vradomil_set_priority_report(t, t_len, w, w_len, process, index, priority, r, r_len)
+                as i64
         },
         Event::Query { .. } => step(tables, words, event),
     }

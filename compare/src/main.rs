@@ -5,6 +5,7 @@ mod events;
 mod host;
 mod operations;
 mod pair;
+mod priorities;
 mod reasons;
 mod room;
 mod searches;
@@ -108,6 +109,8 @@ impl Run<'_> {
         let length = self.report_length(event);
         self.pair.set_report(&mut self.rng, length);
         self.tally.finds(event, self.pair.state.as_ref());
+        let state = self.pair.state.as_ref();
+        let too_high = state.and_then(|state| priorities::too_high(event, state));
         let given = self.pair.step(event)?;
         if !tally::is_answer(given.number) {
             return Err(format!("{event:?}: both answer {}, which is no answer", given.number));
@@ -116,10 +119,15 @@ impl Run<'_> {
         if given.reason != reasons::lowest(applying) {
             return Err(format!("{event:?}: reason {}, not the lowest", given.reason));
         }
+        if !self.pair.priorities_kept(event, given.number) {
+            return Err(format!("{event:?}: both change a priority, or more than the one it sets"));
+        }
         self.tally.event(event, given.number, Form::of(length), applying);
+        self.tally.too_high(event, given.number, too_high);
         if given.number >= 0 {
             self.tally.wake_op(self.pair.shown(event));
             self.tally.search(event, self.pair.search_end(event));
+            self.tally.fates(event, self.pair.fates(event));
         }
         Ok(())
     }
@@ -239,7 +247,7 @@ impl Run<'_> {
                 }
                 self.event(events::EDGES, Some(&state))?;
             }
-            let length = self.rng.pick(&[0, 1, 1295, 1296, 1297, 2592]) as usize;
+            let length = self.rng.pick(&[0, 1, 1296, 1359, 1360, 1361, 2720]) as usize;
             let number = self.pair.fresh(length, self.shift)?;
             self.tally.fresh(number);
             self.check_words()?;

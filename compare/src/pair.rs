@@ -11,6 +11,7 @@ use second::rng::Rng;
 use crate::events;
 use crate::host;
 use crate::operations::Shown;
+use crate::priorities::{self, Fates};
 use crate::room::Room;
 use crate::searches;
 
@@ -145,6 +146,16 @@ impl Pair {
             Event::Call(call) => searches::end(call, &self.before, &self.bytes),
             _ => None,
         }
+    }
+
+    /// Whether the last event left all the priorities that it had to leave.
+    pub fn priorities_kept(&self, event: &Event, number: i64) -> bool {
+        priorities::are_kept(event, number, &self.before, &self.bytes)
+    }
+
+    /// What the last event, not refused, did to threads that have a priority.
+    pub fn fates(&self, event: &Event) -> Fates {
+        priorities::fates_of(event, &self.before, &self.bytes)
     }
 
     fn ask(&mut self, event: &Event) -> i64 {

@@ -1,13 +1,17 @@
 //! Which of the reasons for -22 an event's arguments give, told once more from
-//! request (i) of document 02: so that a run knows which it has tried, and that
-//! the one reported is the lowest.
+//! requests (i) and (vi) of document 02: so that a run knows which it has tried, and
+//! that the one reported is the lowest.
 
 use second::model::Event;
 
 use crate::tally::{kind, Kind};
 
 /// A set of reasons: bit r for reason r.
-pub type Reasons = u8;
+pub type Reasons = u16;
+
+/// One more than the highest reason, and how many sets there are.
+const REASONS: u8 = 9;
+pub const SETS: usize = 1 << REASONS;
 
 /// The reasons that events of a kind can be refused for.
 pub fn possible(kind: Kind) -> &'static [u8] {
@@ -19,6 +23,7 @@ pub fn possible(kind: Kind) -> &'static [u8] {
         "WAIT_BITSET" => &[3, 4],
         "WAKE_BITSET" => &[1, 3, 4],
         "clock" => &[7],
+        "set priority" => &[8],
         _ => &[],
     }
 }
@@ -37,6 +42,7 @@ pub fn applying(event: &Event) -> Reasons {
             _ => call.uaddr == call.uaddr2,
         },
         Event::Store { address, .. } => address % 4 != 0,
+        Event::SetPriority { priority, .. } => priority > 31,
         _ => true,
     };
     let reasons = possible(kind(event)).iter().filter(|&&reason| holds(reason));
@@ -45,5 +51,5 @@ pub fn applying(event: &Event) -> Reasons {
 
 /// The lowest; 0 if there is none.
 pub fn lowest(reasons: Reasons) -> u8 {
-    (1..8).find(|reason| reasons >> reason & 1 == 1).unwrap_or(0)
+    (1..REASONS).find(|reason| reasons >> reason & 1 == 1).unwrap_or(0)
 }

@@ -1,12 +1,12 @@
 //! Tables to try single events on: sound ones, ones with one rule broken, one
 //! byte changed, random bytes, and wrong lengths.
 
-use second::generate::tables::{Break, LAST_BREAKS, LIST_BREAKS, RECORD_BREAKS};
+use second::generate::tables::{Break, LAST_BREAKS, LIST_BREAKS, PRIORITY_BREAKS, RECORD_BREAKS};
 use second::layout::{self, LAST, TABLE_BYTES, TIMED, WAITING};
 use second::model::{State, THREADS};
 use second::rng::Rng;
 
-use crate::events::{ADDRESSES, EDGE_U64, MASKS};
+use crate::events::{self, ADDRESSES, EDGE_U64, MASKS};
 
 /// Sound tables with this many sleepers.
 pub fn sound(rng: &mut Rng, sleepers: usize) -> State {
@@ -18,6 +18,7 @@ pub fn sound(rng: &mut Rng, sleepers: usize) -> State {
     };
     for thread in &mut state.threads {
         thread.last = rng.below(4) as u8;
+        thread.priority = events::priority(rng);
     }
     let mut numbers: [usize; THREADS] = std::array::from_fn(|number| number);
     for place in 0..sleepers {
@@ -51,8 +52,10 @@ pub fn sleepers(rng: &mut Rng) -> usize {
 }
 
 /// How many ways `break_rule` has.
-pub const BREAKS: usize =
-    LIST_BREAKS.len() + RECORD_BREAKS.len() + LAST_BREAKS.len() + FLAG_BREAKS.len();
+pub const BREAKS: usize = STATE_BREAKS + FLAG_BREAKS.len();
+/// Those that break what the bytes stand for.
+const STATE_BREAKS: usize =
+    LIST_BREAKS.len() + RECORD_BREAKS.len() + LAST_BREAKS.len() + PRIORITY_BREAKS.len();
 
 /// Flag bytes that stand for nothing: the column and the byte.
 const FLAG_BREAKS: &[(usize, u8)] = &[
@@ -73,7 +76,8 @@ const FLAG_BREAKS: &[(usize, u8)] = &[
 ];
 
 fn state_break(which: usize) -> Option<Break> {
-    LIST_BREAKS.iter().chain(RECORD_BREAKS).chain(LAST_BREAKS).nth(which).copied()
+    let of_records = RECORD_BREAKS.iter().chain(LAST_BREAKS).chain(PRIORITY_BREAKS);
+    LIST_BREAKS.iter().chain(of_records).nth(which).copied()
 }
 
 /// Breaks one rule of sound tables that have a sleeper and a running thread,
@@ -89,8 +93,7 @@ pub fn break_rule(rng: &mut Rng, mut state: State, which: usize) -> Vec<u8> {
         return layout::encode(&state).to_vec();
     }
     let mut bytes = layout::encode(&state).to_vec();
-    let ways = BREAKS - FLAG_BREAKS.len();
-    let (column, byte) = FLAG_BREAKS[which - ways];
+    let (column, byte) = FLAG_BREAKS[which - STATE_BREAKS];
     bytes[column + rng.pick(&[sleeper, running])] = byte;
     bytes
 }
@@ -102,15 +105,16 @@ pub fn change_byte(rng: &mut Rng, state: &State) -> Vec<u8> {
     bytes[at] = match rng.below(4) {
         0 => rng.u64() as u8,
         1 => bytes[at].wrapping_add(1),
-        2 => rng.pick(&[0, 1, 63, 64, 128, 255]),
+        2 => rng.pick(&[0, 1, 31, 32, 63, 64, 128, 255]),
         _ => bytes[at] ^ (1 << rng.below(8)),
     };
     bytes
 }
 
-/// Bytes of a wrong length, sound tables as far as they go.
+/// Bytes of a wrong length, sound tables as far as they go; 1,296 end where the
+/// priorities begin.
 pub fn wrong_length(rng: &mut Rng, state: &State) -> Vec<u8> {
-    let length = rng.pick(&[0, 1, 8, 16, 784, 1288, 1295, 1297, 1304, 2592]);
+    let length = rng.pick(&[0, 1, 8, 16, 784, 1288, 1295, 1296, 1297, 1359, 1361, 1368, 2720]);
     let mut bytes = layout::encode(state).to_vec();
     bytes.resize(length, 0);
     bytes

@@ -1,7 +1,8 @@
 //! How often each kind of event got each answer and each reason, how often each
 //! operation and comparison of WAKE_OP was seen, how the searches of wakes and
-//! requeues ended, how often a running thread called though the list says 64 or
-//! more, and which of these must have come up for a run to count.
+//! requeues ended, what was done to threads that have a priority, how often a
+//! priority was too high, how often a running thread called though the list says
+//! 64 or more, and which of these must have come up for a run to count.
 
 use std::fmt::Write;
 
@@ -9,7 +10,8 @@ use second::layout::ASLEEP;
 use second::model::{Event, State, PRIVATE_BIT, THREADS, THREADS_PER_PROCESS};
 
 use crate::operations::{self, Shown, COMPARISONS, OPERATIONS, WAYS};
-use crate::reasons::{self, Reasons};
+use crate::priorities::{self, Fates, TooHigh, FATES, RECORDS};
+use crate::reasons::{self, Reasons, SETS};
 use crate::searches::{self, ENDS};
 
 /// A kind of event: a command, or one of the others.
@@ -28,6 +30,7 @@ const KINDS: &[Kind] = &[
     "store",
     "clock",
     "interrupt",
+    "set priority",
     "query",
     FRESH,
 ];
@@ -48,6 +51,7 @@ fn due(kind: Kind) -> &'static [i64] {
         "store" => &[-3, -22, -14, 0],
         "clock" => &[-22, 0, SOME],
         "interrupt" => &[-3, 0, SOME],
+        "set priority" => &[-3, -22, 0],
         "query" => &[NOBODY, SOME],
         _ => &[0, -9],
     }
@@ -66,7 +70,8 @@ fn place(event: &Event) -> usize {
         Event::Store { .. } => 8,
         Event::Clock { .. } => 9,
         Event::Interrupt { .. } => 10,
-        Event::Query { .. } => 11,
+        Event::SetPriority { .. } => 11,
+        Event::Query { .. } => 12,
     }
 }
 
@@ -140,13 +145,17 @@ type Counts = [u64; ANSWERS.len()];
 pub struct Tally {
     counts: [[Counts; KINDS.len()]; FORMS.len()],
     /// How often a kind was refused for a set of reasons, where it was seen.
-    reasons: [[u64; 256]; KINDS.len()],
+    reasons: [[u64; SETS]; KINDS.len()],
     /// How often a comparison came out in a way, and an operation had an oparg
     /// that was not negative, and one that was.
     compared: [[u64; WAYS]; COMPARISONS],
     operated: [[u64; 2]; 16],
     /// How often the search of a kind ended so.
     searched: [[u64; ENDS]; KINDS.len()],
+    /// How often a kind did so to threads that have a priority.
+    fated: [[u64; FATES]; KINDS.len()],
+    /// How often a kind was refused for a priority too high, in which record.
+    high: [[u64; RECORDS.len()]; KINDS.len()],
     /// How often a running thread called though the list said 64 or more.
     crowded: [u64; KINDS.len()],
     pub sound: u64,
@@ -161,10 +170,12 @@ impl Tally {
     pub fn new() -> Tally {
         Tally {
             counts: [[[0; ANSWERS.len()]; KINDS.len()]; FORMS.len()],
-            reasons: [[0; 256]; KINDS.len()],
+            reasons: [[0; SETS]; KINDS.len()],
             compared: [[0; WAYS]; COMPARISONS],
             operated: [[0; 2]; 16],
             searched: [[0; ENDS]; KINDS.len()],
+            fated: [[0; FATES]; KINDS.len()],
+            high: [[0; RECORDS.len()]; KINDS.len()],
             crowded: [0; KINDS.len()],
             sound: 0,
             broken: 0,
@@ -197,6 +208,19 @@ impl Tally {
     pub fn search(&mut self, event: &Event, end: Option<usize>) {
         if let Some(end) = end {
             self.searched[place(event)][end] += 1;
+        }
+    }
+
+    pub fn fates(&mut self, event: &Event, fates: Fates) {
+        for (count, seen) in self.fated[place(event)].iter_mut().zip(fates) {
+            *count += seen as u64;
+        }
+    }
+
+    /// An event's answer, and the one priority that made the tables break a rule.
+    pub fn too_high(&mut self, event: &Event, number: i64, record: Option<TooHigh>) {
+        if let (Some(record), -9 | NOBODY) = (record, number) {
+            self.high[place(event)][record] += 1;
         }
     }
 
@@ -236,7 +260,7 @@ impl Tally {
                 }
                 for &other in &possible[at + 1..] {
                     let both = 1 << reason | 1 << other;
-                    if (0..256).all(|set| set & both != both || counts[set] == 0) {
+                    if (0..SETS).all(|set| set & both != both || counts[set] == 0) {
                         missing.push(format!("{kind} with reasons {reason} and {other}"));
                     }
                 }
@@ -271,13 +295,32 @@ impl Tally {
         })
     }
 
+    /// How often each kind did what it can to threads that have a priority.
+    fn all_fates(&self) -> impl Iterator<Item = (String, u64)> + '_ {
+        KINDS.iter().zip(&self.fated).flat_map(|(kind, counts)| {
+            let fates = priorities::fates(kind).iter().zip(counts);
+            fates.map(move |(fate, &count)| (format!("{kind}: {fate}"), count))
+        })
+    }
+
+    /// The records in which a priority too high should have been refused and wasn't.
+    fn missing_too_high(&self, missing: &mut Vec<String>) {
+        for (kind, counts) in KINDS.iter().zip(&self.high).filter(|(kind, _)| **kind != FRESH) {
+            for (record, _) in RECORDS.iter().zip(counts).filter(|(_, &count)| count == 0) {
+                missing.push(format!("{kind} with a priority above 31 in a {record} record"));
+            }
+        }
+    }
+
     /// What should have come up and didn't.
     pub fn missing(&self, breaks: usize) -> Vec<String> {
         let mut missing = Vec::new();
         self.missing_answers(&mut missing);
         self.missing_reasons(&mut missing);
         self.missing_operations(&mut missing);
-        missing.extend(self.searches().filter(|&(_, count)| count == 0).map(|(name, _)| name));
+        self.missing_too_high(&mut missing);
+        let counted = self.searches().chain(self.all_fates());
+        missing.extend(counted.filter(|&(_, count)| count == 0).map(|(name, _)| name));
         let unseen = |&(kind, n): &(&Kind, u64)| n == 0 && due(kind).contains(&-16);
         for (kind, _) in KINDS.iter().zip(self.crowded).filter(unseen) {
             missing.push(format!("{kind} by a running thread on a list that says 64 or more"));
@@ -291,8 +334,9 @@ impl Tally {
         missing
     }
 
-    /// One line: events by kind, answers, forms, reasons, comparisons and ends of
-    /// searches seen, calls on a list that says 64 or more, tables.
+    /// One line: events by kind, answers, forms, reasons, comparisons, ends of
+    /// searches, fates of threads with a priority and priorities too high seen, calls
+    /// on a list that says 64 or more, tables.
     pub fn summary(&self) -> String {
         let kinds = KINDS.iter().enumerate().map(|(at, kind)| {
             let counts = self.counts.iter().flat_map(|counts| counts[at]);
@@ -306,7 +350,7 @@ impl Tally {
             let sum: u64 = counts.iter().flatten().sum();
             format!("{form} {sum}")
         });
-        let seen = (1..8).map(|reason| format!("{reason}: {}", self.refused_for(reason)));
+        let seen = (1..9).map(|reason| format!("{reason}: {}", self.refused_for(reason)));
         let mut text = format!("{} events", self.events());
         let _ = write!(text, " ({}), answers ({})", listed(kinds), listed(answers));
         let _ = write!(text, ", asked ({}), reasons seen ({})", listed(forms), listed(seen));
@@ -314,6 +358,9 @@ impl Tally {
         let _ = write!(text, ", comparisons seen (true {yes}, false {no})");
         let ends = self.searches().map(|(name, count)| format!("{name} {count}"));
         let _ = write!(text, ", searches seen ({})", listed(ends));
+        let fates = self.all_fates().map(|(name, count)| format!("{name} {count}"));
+        let high: u64 = self.high.iter().flatten().sum();
+        let _ = write!(text, ", priorities seen ({}), too high {high}", listed(fates));
         let crowded: u64 = self.crowded.iter().sum();
         let _ =
             write!(text, ", called by a running thread on a list that says 64 or more {crowded}");
@@ -329,7 +376,7 @@ impl Tally {
 
     /// How often a reason was seen as the lowest.
     fn refused_for(&self, reason: u8) -> u64 {
-        let sets = (0..=255).filter(|&set| reasons::lowest(set) == reason);
+        let sets = (0..SETS as Reasons).filter(|&set| reasons::lowest(set) == reason);
         sets.flat_map(|set| self.reasons.iter().map(move |counts| counts[set as usize])).sum()
     }
 }

@@ -4,7 +4,7 @@
 use std::io::{self, BufRead, ErrorKind, Read, Write};
 
 use crate::bytes::u32_at;
-use crate::log::{CALL, CLOCK, INTERRUPT, STORE};
+use crate::log::{CALL, CLOCK, INTERRUPT, SET_PRIORITY, STORE};
 use crate::model::{Call, Event};
 use crate::pieces::{Ended, Reader, HELD};
 
@@ -112,6 +112,10 @@ impl Seen {
             Event::Clock { time } => self.add_numbers([CLOCK.into(), time]),
             Event::Interrupt { process, index } => {
                 self.add_numbers([INTERRUPT.into(), process.into(), index.into()]);
+            }
+            Event::SetPriority { process, index, priority } => {
+                let kind = SET_PRIORITY.into();
+                self.add_numbers([kind, process.into(), index.into(), priority.into()]);
             }
             Event::Query { .. } => {} // no record is a query
         }

@@ -1,15 +1,15 @@
 //! Tables and words as bytes, as a host kernel written in C hands them over.
 //!
-//! Tables are 1,296 bytes in columns, little-endian: clock at 0, count at 8,
+//! Tables are 1,360 bytes in columns, little-endian: clock at 0, count at 8,
 //! list at 16, waiting at 80, timed at 144, last answer at 208, uaddr at 272,
-//! bitset at 528, deadline at 784. Words are 32,768 bytes.
+//! bitset at 528, deadline at 784, priority at 1296. Words are 32,768 bytes.
 
 use crate::bytes::{put_u32, put_u64, u32_at, u64_at};
 use crate::model::{
     self, Answer, Call, Event, Report, State, Thread, EBADF, ENXIO, INTERRUPTED, THREADS, WORDS,
 };
 
-pub const TABLE_BYTES: usize = 1296;
+pub const TABLE_BYTES: usize = 1360;
 pub const WORD_BYTES: usize = 4 * WORDS;
 /// "Asleep" as a number.
 pub const ASLEEP: i32 = 2147483647;
@@ -22,9 +22,11 @@ pub const LAST: usize = 208;
 pub const UADDR: usize = 272;
 pub const BITSET: usize = 528;
 pub const DEADLINE: usize = 784;
+pub const PRIORITY: usize = 1296;
 
 /// The tables that the bytes stand for. None for a wrong length or a byte that
-/// stands for nothing; the table rules are not tested here.
+/// stands for nothing; the table rules are not tested here, so any priority can
+/// be held.
 pub fn decode(bytes: &[u8]) -> Option<State> {
     if bytes.len() != TABLE_BYTES {
         return None;
@@ -51,6 +53,7 @@ fn decode_thread(bytes: &[u8], number: usize) -> Option<Thread> {
         uaddr: u32_at(bytes, UADDR + 4 * number),
         bitset: u32_at(bytes, BITSET + 4 * number),
         deadline: u64_at(bytes, DEADLINE + 8 * number),
+        priority: bytes[PRIORITY + number],
     })
 }
 
@@ -81,6 +84,7 @@ pub fn encode_into(state: &State, bytes: &mut [u8; TABLE_BYTES]) {
         put_u32(bytes, UADDR + 4 * number, thread.uaddr);
         put_u32(bytes, BITSET + 4 * number, thread.bitset);
         put_u64(bytes, DEADLINE + 8 * number, thread.deadline);
+        bytes[PRIORITY + number] = thread.priority;
     }
 }
 
@@ -145,6 +149,16 @@ pub fn clock(tables: &mut [u8], words: &mut [u8], time: u64) -> i32 {
 
 pub fn interrupt(tables: &mut [u8], words: &mut [u8], process: u8, index: u8) -> i32 {
     apply(tables, words, &Event::Interrupt { process, index })
+}
+
+pub fn set_priority(
+    tables: &mut [u8],
+    words: &mut [u8],
+    process: u8,
+    index: u8,
+    priority: u8,
+) -> i32 {
+    apply(tables, words, &Event::SetPriority { process, index, priority })
 }
 
 /// The three numbers of a panel query.

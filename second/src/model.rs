@@ -1,5 +1,5 @@
-//! The futex kernel by the rules of document 01 and requests (i), (ii) and (v)
-//! of document 02: the events, what they report and `step`, which applies one
+//! The futex kernel by the rules of document 01 and requests (i), (ii), (v) and
+//! (vi) of document 02: the events, what they report and `step`, which applies one
 //! event to the tables and the lent words.
 
 mod calls;
@@ -19,6 +19,8 @@ pub const THREADS: usize = PROCESSES * THREADS_PER_PROCESS;
 pub const WORDS_PER_PROCESS: usize = 1024;
 pub const WORDS: usize = PROCESSES * WORDS_PER_PROCESS;
 pub const FIRST_BAD_ADDRESS: u32 = 4 * WORDS_PER_PROCESS as u32;
+/// A base priority is 0, as at the start, up to this.
+pub const HIGHEST_PRIORITY: u8 = 31;
 
 // The refusals, with the names that the Linux headers give them.
 pub const ESRCH: i32 = -3;
@@ -41,6 +43,7 @@ pub const UADDR_NOT_ALIGNED: u8 = 4; // also a store's address
 pub const UADDR2_NOT_ALIGNED: u8 = 5;
 pub const SAME_ADDRESS: u8 = 6;
 pub const CLOCK_WENT_BACK: u8 = 7;
+pub const PRIORITY_HIGH: u8 = 8;
 
 /// The command numbers.
 pub const WAIT: u32 = 0;
@@ -76,6 +79,7 @@ pub enum Event {
     Store { process: u8, address: u32, value: u32 },
     Clock { time: u64 },
     Interrupt { process: u8, index: u8 },
+    SetPriority { process: u8, index: u8, priority: u8 },
     Query { process: u8 },
 }
 
@@ -167,6 +171,9 @@ pub fn step_sound(state: &mut State, words: &mut [u32], event: &Event) -> Report
         Event::Store { process, address, value } => store(words, process, address, value),
         Event::Clock { time } => clock(state, time),
         Event::Interrupt { process, index } => interrupt(state, process, index),
+        Event::SetPriority { process, index, priority } => {
+            set_priority(state, process, index, priority)
+        }
         Event::Query { process } => Ok(query(state, process)),
     };
     match result {
@@ -218,6 +225,22 @@ fn interrupt(state: &mut State, process: u8, index: u8) -> Result<Answer, Refusa
     let target = thread_number(process, index).ok_or(ESRCH)?;
     // Only waiting threads are on the list, so a running one ends nothing: 0.
     Ok(Answer::Number(state.end_sleeps(1, INTERRUPTED, |number, _| number == target)))
+}
+
+/// Of a sleeper as of a running thread. It is only kept: whom a wake takes hangs
+/// on arrival alone.
+fn set_priority(
+    state: &mut State,
+    process: u8,
+    index: u8,
+    priority: u8,
+) -> Result<Answer, Refusal> {
+    let target = thread_number(process, index).ok_or(ESRCH)?;
+    if priority > HIGHEST_PRIORITY {
+        return Err(Refusal::argument(PRIORITY_HIGH));
+    }
+    state.threads[target].priority = priority;
+    Ok(Answer::Number(0))
 }
 
 fn query(state: &State, process: u8) -> Answer {

@@ -1,4 +1,4 @@
-//! A binary test script and what it prints. Records 1 to 4 are those of the
+//! A binary test script and what it prints. Records 1 to 5 are those of the
 //! log (here any flag byte is let through); the others set up and show.
 
 use std::io::{self, Write};
@@ -31,6 +31,7 @@ pub const BITSET: u8 = 5;
 pub const TIMED: u8 = 6;
 pub const DEADLINE: u8 = 7;
 pub const LAST: u8 = 8;
+pub const PRIORITY: u8 = 9;
 
 /// A search as a script asks for it. With flag 0 any mask matches, and the mask
 /// here is ignored.
@@ -85,7 +86,7 @@ pub fn read(bytes: &[u8], place: usize) -> Option<(Record, usize)> {
     };
     let good = match record {
         Record::Lend(n) => n as usize <= MEMORY,
-        Record::Poke { field, .. } => field <= LAST,
+        Record::Poke { field, .. } => field <= PRIORITY,
         _ => true,
     };
     good.then_some((record, place + 1 + length))
@@ -218,7 +219,8 @@ fn poke(state: &mut State, field: u8, index: u8, value: u64) {
         BITSET => thread.bitset = value as u32,
         TIMED => thread.timed = value % 2 == 1,
         DEADLINE => thread.deadline = value,
-        _ => thread.last = (value % 4) as u8,
+        LAST => thread.last = (value % 4) as u8,
+        _ => thread.priority = value as u8,
     }
 }
 
@@ -233,12 +235,12 @@ fn dump(state: &State, out: &mut impl Write) -> io::Result<()> {
     }
     writeln!(out)?;
     for (number, t) in state.threads.iter().enumerate() {
-        if *t != Thread::running(NO_SLEEP_ENDED) {
+        if *t != Thread::running(NO_SLEEP_ENDED, 0) {
             let (waiting, timed) = (t.waiting as u8, t.timed as u8);
             writeln!(
                 out,
-                "thread {number} {waiting} {} {} {timed} {} {}",
-                t.uaddr, t.bitset, t.deadline, t.last
+                "thread {number} {waiting} {} {} {timed} {} {} {}",
+                t.uaddr, t.bitset, t.deadline, t.last, t.priority
             )?;
         }
     }

@@ -1,7 +1,7 @@
 //! Checks of this program by itself: the cases of document 01, its sentences
 //! one by one, the reasons, the signed WAKE_OP, the refusal that never comes, the
-//! log in pieces and the search of document 02, round trips, and random runs
-//! against the rules said once more in another way.
+//! log in pieces, the search and the priorities of document 02, round trips, and
+//! random runs against the rules said once more in another way.
 
 mod calls;
 mod cuts;
@@ -13,6 +13,7 @@ mod never;
 mod operations;
 mod others;
 mod pieces;
+mod priorities;
 mod reasons;
 mod replays;
 mod scripts;
@@ -131,6 +132,7 @@ pub fn run() -> Checks {
     histories::run(&mut checks);
     never::run(&mut checks);
     searches::run(&mut checks);
+    priorities::run(&mut checks);
     checks
 }
 

@@ -72,6 +72,10 @@ pub fn interrupt(who: Who) -> Event {
     Event::Interrupt { process: who.0, index: who.1 }
 }
 
+pub fn set_priority(who: Who, priority: u8) -> Event {
+    Event::SetPriority { process: who.0, index: who.1, priority }
+}
+
 pub fn query(process: u8) -> Event {
     Event::Query { process }
 }

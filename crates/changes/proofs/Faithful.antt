@@ -7,7 +7,7 @@ use native.Mathlib.Omega.{arith}
 use lib.ListN.{length, take, drop, getD}
 use lib.Seq.{drop-cons, ext-getD}
 use lib.Dec.{eqb}
-use borrow.Author.Tests.{eq-eqb, le-leb}
+use borrow.Author.Tests.{eq-eqb, leb-true, le-leb}
 use Rattle.lists.specs.Lists.{everyBelow, bit, tabulate}
 use Rattle.lists.specs.LittleEndian.{le, bytes, numberAt}
 use Rattle.lists.proofs.LittleEndian.{le-bytes}
@@ -16,9 +16,10 @@ use Rattle.lists.proofs.Count.{everyBelow-intro}
 use Rattle.lists.proofs.Tabulate.{length-tabulate, getD-tabulate}
 use Rattle.tables.specs.declared.State.{State}
 use Rattle.tables.specs.declared.Thread.{Thread}
-use Rattle.tables.specs.Sizes.{threads, wordBytes}
+use Rattle.tables.specs.Sizes.{threads, wordBytes, maxPriority}
 use Rattle.tables.specs.Tables.{freshThread, threadOf}
-use Rattle.layout.specs.Layout.{timeBytes, column, columns, lastByte, maxLast, lastOf, waitingByte, timedByte, tablesBytes, tablesAt, stateAt, threadAt, tablesSize, flagsOk, clockAt, waitingAt, timedAt, lastAt, uaddrAt, bitsetAt, deadlineAt}
+use Rattle.tables.proofs.Sound.{tables-sound, priority-kept}
+use Rattle.layout.specs.Layout.{timeBytes, column, columns, lastByte, maxLast, lastOf, waitingByte, timedByte, tablesBytes, tablesAt, stateAt, threadAt, tablesSize, flagsOk, clockAt, waitingAt, timedAt, lastAt, uaddrAt, bitsetAt, deadlineAt, priorityAt}
 use Rattle.layout.proofs.Columns.{length-column, entry-read, before, get-column, column-read}
 use Rattle.layout.proofs.Exact.{sizes, last-low, last-back}
 use Rattle.changes.specs.Change.{Whole, Stands, Fits}
@@ -74,7 +75,9 @@ module _ (s : State) (b : List ℕ) (h : Stands s b) (fit : Fits s) where
       let uaddr = number-read 6 wordBytes uaddrAt (λ q. q .uaddr) refl refl i low (g .uaddr) (uaddrAt + wordBytes * i) refl (omega arith) in
       let bitset = number-read 7 wordBytes bitsetAt (λ q. q .bitset) refl refl i low (g .bitset) (bitsetAt + wordBytes * i) refl (omega arith) in
       let deadline = number-read 8 timeBytes deadlineAt (λ q. q .deadline) refl refl i low (g .deadline) (deadlineAt + timeBytes * i) refl (omega arith) in
-      λ j. record { waiting = waiting j; uaddr = uaddr j; bitset = bitset j; timed = timed j; deadline = deadline j; last = last j }
+      let most = leb-true (r .priority) maxPriority (priority-kept s (tables-sound s (h .sound)) i) in
+      let priority = byte-read 9 priorityAt (λ q. q .priority) refl (omega arith) refl i low (omega (arith, most)) in
+      λ j. record { waiting = waiting j; uaddr = uaddr j; bitset = bitset j; timed = timed j; deadline = deadline j; last = last j; priority = priority j }
 
   state-back : stateAt b ≡ s
   unfolding stateAt tablesBytes

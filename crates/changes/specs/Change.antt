@@ -61,7 +61,7 @@ pub record RequeuedBytes (t : Requeued) (n : Counts) (after : List ℕ) : Type 0
 abbrev pub WritesRequeued : (State → Requeued) → List ℕ → Counts → List ℕ → Type 0
 WritesRequeued f b n after = (s : State) → Stands s b → RequeuedBytes (f s) n after
 
--- each number fits its field, as in all tables that code holds
+-- each number fits its field, as in all tables that code holds; that the count and the priorities do is a table rule
 pub record FitsThread (r : Thread) : Type 0 where
   pub uaddr : r .uaddr < wordLimit
   pub bitset : r .bitset < wordLimit

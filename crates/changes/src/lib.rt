@@ -6,7 +6,7 @@ ghost use lib.ListN.{length, take, drop};
 ghost use Rattle.lists.specs.Lists.{bit};
 ghost use Rattle.tables.specs.declared.Change.the-variants.{End, MoveTo};
 ghost use Rattle.tables.specs.Sizes.{threads};
-ghost use Rattle.tables.specs.Tables.{threadOf, change, withThreads, withSleep, ended, asleepAt, fallAsleep};
+ghost use Rattle.tables.specs.Tables.{threadOf, change, withThreads, withSleep, ended, asleepAt, fallAsleep, setPriority};
 ghost use Rattle.tables.specs.Steps.{Numbers, changedBy, flagged, endFirst, requeueFirst};
 ghost use Rattle.layout.specs.Layout.{lastByte, tablesSize, stateAt, tablesBytes};
 ghost use Rattle.layout.specs.Check.{Held};
@@ -20,6 +20,7 @@ use layout::COUNT_AT;
 use layout::DEADLINE_AT;
 use layout::LAST_AT;
 use layout::LIST_AT;
+use layout::PRIORITY_AT;
 use layout::TIME_SIZE;
 use layout::TIMED_AT;
 use layout::UADDR_AT;
@@ -80,6 +81,14 @@ fn end_sleep(b: &mut [u8], i: usize, last: LastAnswer)
     let answer = last_byte(last);
     put_sleep(b, i, false, 0, 0, false, 0);
     b[LAST_AT + i] = answer;
+}
+
+// The base priority of a thread. The caller has asked whether the rule allows it: this function does not.
+pub fn set_priority(b: &mut [u8], t: usize, priority: u8)
+    requires { ⌜ (length (now b) ≡ tablesSize) × (t < threads) ⌝ }
+    ensures { λ _. ⌜ Writes (setPriority priority t) (now (b .entry)) (now (b .exit)) ⌝ }
+{
+    b[PRIORITY_AT + t] = priority;
 }
 
 // The arrival list and its count.

@@ -28,5 +28,10 @@ pub(crate) fn with_event(h: u64, e: Event) -> u64 {
             index: i,
         } => mixed(mixed(mixed(h, 4), p as u64), i as u64),
         Event::Query { process: p } => mixed(mixed(h, 0), p as u64),
+        Event::SetPriority {
+            process: p,
+            index: i,
+            priority: n,
+        } => mixed(mixed(mixed(mixed(h, 5), p as u64), i as u64), n as u64),
     }
 }

@@ -69,7 +69,8 @@ fn bit(b: bool) -> u64 {
 fn thread(i: usize, t: Thread) {
     let a = t.last;
     let last = last_code(a);
-    if t.waiting | t.timed | (t.uaddr != 0) | (t.bitset != 0) | (t.deadline != 0) | (last != 0) {
+    let changed = (last != 0) | (t.priority != 0);
+    if changed | t.waiting | t.timed | (t.uaddr != 0) | (t.bitset != 0) | (t.deadline != 0) {
         text(b"thread");
         spaced(i as u64);
         spaced(bit(t.waiting));
@@ -78,6 +79,7 @@ fn thread(i: usize, t: Thread) {
         spaced(bit(t.timed));
         spaced(t.deadline);
         spaced(last);
+        spaced(t.priority as u64);
         text(b"\n");
     }
 }

@@ -22,6 +22,7 @@ fn body_length(kind: u8) -> usize
         2 => 9,
         3 => 8,
         4 => 2,
+        5 => 3,
         77 => 4,
         80 => 10,
         81 => 1,
@@ -66,9 +67,9 @@ pub(crate) fn u64_at(b: [u8; 32], at: usize) -> u64
     low as u64 + 4294967296 * (high as u64)
 }
 
-// Kinds 1 to 4 as in a log, and a panel query.
+// Kinds 1 to 5 as in a log, and a panel query.
 pub(crate) fn is_event(kind: u8) -> bool {
-    (kind <= 4) | (kind == 81)
+    (kind <= 5) | (kind == 81)
 }
 
 pub(crate) fn event_of(kind: u8, b: [u8; 32]) -> Event {
@@ -83,6 +84,11 @@ pub(crate) fn event_of(kind: u8, b: [u8; 32]) -> Event {
         4 => Event::Interrupt {
             process: b[0],
             index: b[1],
+        },
+        5 => Event::SetPriority {
+            process: b[0],
+            index: b[1],
+            priority: b[2],
         },
         _ => Event::Query { process: b[0] },
     }
@@ -134,6 +140,7 @@ fn poked(t: Thread, field: u8, v: u64) -> Thread {
     let uaddr = pick(field == 4, v, t.uaddr as u64);
     let bitset = pick(field == 5, v, t.bitset as u64);
     let last = last_of(pick(field == 8, v, code));
+    let priority = pick(field == 9, v, t.priority as u64);
     Thread {
         waiting: pick_bit(field == 3, v, t.waiting),
         uaddr: (uaddr % 4294967296) as u32,
@@ -141,6 +148,7 @@ fn poked(t: Thread, field: u8, v: u64) -> Thread {
         timed: pick_bit(field == 6, v, t.timed),
         deadline: pick(field == 7, v, t.deadline),
         last: last,
+        priority: (priority % 256) as u8,
     }
 }
 

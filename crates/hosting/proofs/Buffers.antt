@@ -16,7 +16,7 @@ use Rattle.tables.specs.Sizes.{threads, wordBytes, memoryWords}
 use Rattle.tables.specs.Tables.{tablesOk}
 use Rattle.tables.proofs.Sound.{tables-sound}
 use Rattle.rules.specs.declared.event.Event.{Event}
-use Rattle.rules.specs.declared.event.Event.the-variants.{Call as CallEvent, Store, Clock, Interrupt, Query}
+use Rattle.rules.specs.declared.event.Event.the-variants.{Query}
 use Rattle.rules.specs.declared.answer.Refusal.{Refusal}
 use Rattle.rules.specs.declared.answer.Errno.the-variants.{ENXIO, EBADF}
 use Rattle.rules.specs.declared.answer.Verdict.the-variants.{Refuse}
@@ -25,6 +25,7 @@ use Rattle.rules.specs.Answers.{plain, Outcome, outcome, isRefused}
 use Rattle.rules.specs.Calls.{noProcess}
 use Rattle.rules.specs.Events.{isQuery, step, waitingSet, panelOf, panel}
 use Rattle.rules.specs.History.{final, answers}
+use Rattle.rules.proofs.ByEvent.{by-query}
 use Rattle.rules.proofs.Rows.{step-refused}
 use Rattle.layout.specs.Layout.{tablesAt, tablesBytes, stateAt, threadAt, tablesSize, timeBytes, clockAt, uaddrAt, bitsetAt, deadlineAt, memorySize}
 use Rattle.layout.specs.Check.{Held}
@@ -108,19 +109,13 @@ module _ (e : Event) {b m : List ℕ} (u : Unfit b m) (some : isQuery e ≡ fals
       record { tables = stays .0; words = stays .1; world = ap (λ (o : Outcome). o .world) refused-step }
 
 same : (e : Event) {b m lent b1 m1 told : List ℕ} {r : ℤ} → Unfit b m → Hosted e b m lent r b1 m1 told → Same e b m b1 m1
-same (CallEvent c) u h = refused (CallEvent c) u refl h
-same (Store p a v) u h = refused (Store p a v) u refl h
-same (Clock now) u h = refused (Clock now) u refl h
-same (Interrupt p i) u h = refused (Interrupt p i) u refl h
-same (Query p) {b} {m} u h = record { tables = h .tables; words = h .words; world = asked p (seen b m) }
+same e {b} {m} {lent} {b1} {m1} {told} {r} u = by-query (λ e. Hosted e b m lent r b1 m1 told → Same e b m b1 m1)
+    (λ p h. record { tables = h .tables; words = h .words; world = asked p (seen b m) })
+    (λ e some. refused e u some) e
 
 -- an event that is no panel query
 not-query : (e : Event) → ((p : ℕ) → e ≡ Query p → ⊥) → isQuery e ≡ false
-not-query (CallEvent c) h = refl
-not-query (Store p a v) h = refl
-not-query (Clock now) h = refl
-not-query (Interrupt p i) h = refl
-not-query (Query p) h = absurd (h p refl)
+not-query = by-query (λ e. ((p : ℕ) → e ≡ Query p → ⊥) → isQuery e ≡ false) (λ p h. absurd (h p refl)) (λ e some h. some)
 
 -- words of another length, and tables of another length
 module _ {e : Event} {b m lent b1 m1 told : List ℕ} {r : ℤ} (h : Hosted e b m lent r b1 m1 told) (some : (p : ℕ) → e ≡ Query p → ⊥) where

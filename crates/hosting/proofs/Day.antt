@@ -4,7 +4,7 @@ use lib.ListN.{replicate}
 use lib.Count.{ones, trailingZeros}
 use Rattle.lists.specs.Lists.{everyBelow}
 use Rattle.tables.specs.Sizes.{memoryWords}
-use Rattle.tables.specs.Tables.{expiredSleepers, queue, tablesOk, recordOk, fresh, change, endSleeps, fallAsleep, writeWord}
+use Rattle.tables.specs.Tables.{expiredSleepers, queue, tablesOk, recordOk, fresh, change, endSleeps, fallAsleep, setPriority, writeWord}
 use Rattle.rules.specs.Commands.{commandOf, notImplemented}
 use Rattle.rules.specs.WakeOp.{undefinedOp}
 use Rattle.rules.specs.Calls.{argumentRows, badAddress, callRows, candidates, released, wait, wake, callEffect}
@@ -15,5 +15,5 @@ use Rattle.hosting.specs.Hosts.{hearsAll}
 use Rattle.hosting.specs.Day.{day, dayHeard}
 
 pub day-heard : hearsAll (λ e. reportSize) day (answers day (start (replicate memoryWords 0))) ≡ dayHeard
-unfolding step refusals effect callRows callEffect wait wake released candidates queue argumentRows badAddress notImplemented commandOf undefinedOp tablesOk recordOk fresh change endSleeps fallAsleep writeWord expiredSleepers clockEffect interruptEffect everyBelow panel waitingSet bitsBelow ones trailingZeros
+unfolding step refusals effect callRows callEffect wait wake released candidates queue argumentRows badAddress notImplemented commandOf undefinedOp tablesOk recordOk fresh change endSleeps fallAsleep setPriority writeWord expiredSleepers clockEffect interruptEffect everyBelow panel waitingSet bitsBelow ones trailingZeros
 day-heard = refl

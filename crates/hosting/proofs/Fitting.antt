@@ -16,15 +16,15 @@ use Rattle.tables.specs.declared.LastAnswer.{LastAnswer}
 use Rattle.rules.specs.declared.event.Command.{Command}
 use Rattle.rules.specs.declared.event.Call.{Call}
 use Rattle.rules.specs.declared.event.Event.{Event}
-use Rattle.rules.specs.declared.event.Event.the-variants.{Call as CallEvent, Store, Clock, Interrupt, Query}
+use Rattle.rules.specs.declared.event.Event.the-variants.{Call as CallEvent, Store, Clock, Interrupt, Query, SetPriority}
 use Rattle.tables.specs.Sizes.{threads, wordBits, wordLimit, matchAny, wordBytes}
-use Rattle.tables.specs.Tables.{World, threadNumber, freshThread, ended, threadOf, asleepAt, endSleeps, moveSleeps, fallAsleep, writeWord, wordAt}
+use Rattle.tables.specs.Tables.{World, threadNumber, freshThread, ended, threadOf, asleepAt, endSleeps, moveSleeps, fallAsleep, setPriority, writeWord, wordAt}
 use Rattle.rules.specs.Commands.{commandOf, uses}
 use Rattle.rules.specs.Signed.{modulo}
 use Rattle.rules.specs.WakeOp.{opField, opArg, opCode, operand, operate, newWord}
 use Rattle.rules.specs.Calls.{maskOf, timeoutGiven, deadlineOf, wait, wake, requeue, wakeOp, callEffect}
 use Rattle.rules.specs.Events.{clockEffect, interruptEffect, effect, step}
-use Rattle.rules.specs.Claims.{Fate, stays, sleeps, wakes, moves, timesOut, isInterrupted}
+use Rattle.rules.specs.Claims.{Fate, stays, sleeps, wakes, moves, timesOut, isInterrupted, isSet}
 use Rattle.rules.proofs.Commands.{by-command}
 use Rattle.rules.proofs.Rows.{step-keeps}
 use Rattle.rules.proofs.Signed.{modulo-low}
@@ -78,6 +78,7 @@ thread-fits e w t f low g = by (fate e w t)
     by (moves c same there is) = at _ is (record { uaddr = subst EventFits same f .uaddr2; bitset = old .bitset; deadline = old .deadline })
     by (timesOut now same there is) = at _ is (ended-fits _ (threadOf (w .state) t))
     by (isInterrupted p i same who there is) = at _ is (ended-fits _ (threadOf (w .state) t))
+    by (isSet set) = at _ (set .left) (record { uaddr = old .uaddr; bitset = old .bitset; deadline = old .deadline })
 
 -- a word
 operand-low : (v : ℕ) → operand v < 2 ^ 32
@@ -114,12 +115,13 @@ call-words k c w f =
     (set-fits (w .words) _ _ f (word-low (c .val3) (wordAt w (c .process) (c .uaddr2)) (f _))) f k
 
 effect-clock : (e : Event) (w : World) → EventFits e → w .state .clock < 256 ^ 8 → effect e w .world .state .clock < 256 ^ 8
-unfolding effect writeWord clockEffect interruptEffect endSleeps
+unfolding effect writeWord clockEffect interruptEffect endSleeps setPriority
 effect-clock (CallEvent c) w f h = rw (call-clock (commandOf (c .op)) c w) h
 effect-clock (Store p a v) w f h = h
 effect-clock (Clock now) w f h = f
 effect-clock (Interrupt p i) w f h = cases (threadOf (w .state) (threadNumber p i) .waiting) (λ e. rw e h) (λ e. rw e h)
 effect-clock (Query p) w f h = h
+effect-clock (SetPriority p i n) w f h = h
 
 effect-words : (e : Event) (w : World) → EventFits e → WordsFit (w .words) → WordsFit (effect e w .world .words)
 unfolding effect writeWord clockEffect interruptEffect
@@ -128,6 +130,7 @@ effect-words (Store p a v) w f h = set-fits (w .words) _ v h (f .2)
 effect-words (Clock now) w f h = h
 effect-words (Interrupt p i) w f h = cases (threadOf (w .state) (threadNumber p i) .waiting) (λ e. rw e h) (λ e. rw e h)
 effect-words (Query p) w f h = h
+effect-words (SetPriority p i n) w f h = h
 
 pub step-fits : (e : Event) (w : World) → EventFits e → FitsWorld w → FitsWorld (step e w .world)
 step-fits e w f g =

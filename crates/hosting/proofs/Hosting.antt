@@ -6,7 +6,7 @@ use Prim.Native.Nat.{ℕ}
 use lib.IntN.{ℤ, pos, negsuc}
 use Rattle.lists.proofs.Tests.{cases, clash}
 use Rattle.rules.specs.declared.event.Event.{Event}
-use Rattle.rules.specs.declared.event.Event.the-variants.{Call as CallEvent, Store, Clock, Interrupt, Query}
+use Rattle.rules.specs.declared.event.Event.the-variants.{Call as CallEvent, Store, Clock, Interrupt, Query, SetPriority}
 use Rattle.rules.specs.declared.answer.Answer.{Answer}
 use Rattle.rules.specs.declared.answer.Answer.the-variants.{Asleep, Count, Refused, Waiting}
 use Rattle.tables.specs.Tables.{World, writeWord}
@@ -31,6 +31,7 @@ state-kept (CallEvent c) w h = clash true refl h
 state-kept (Store p a v) w h = step-keeps (λ u. u .state ≡ w .state) (Store p a v) w refl (λ h. refl)
 state-kept (Clock now) w h = clash true refl h
 state-kept (Interrupt p i) w h = clash true refl h
+state-kept (SetPriority p i n) w h = clash true refl h
 state-kept (Query p) w h = step-keeps (λ u. u .state ≡ w .state) (Query p) w refl (λ h. refl)
 
 words-kept : (e : Event) (w : World) → touchesWords e ≡ false → step e w .world .words ≡ w .words
@@ -39,6 +40,7 @@ words-kept (CallEvent c) w h = clash true refl h
 words-kept (Store p a v) w h = clash true refl h
 words-kept (Clock now) w h = step-keeps (λ u. u .words ≡ w .words) (Clock now) w refl (λ h. refl)
 words-kept (Interrupt p i) w h = step-keeps (λ u. u .words ≡ w .words) (Interrupt p i) w refl (λ h. interrupt-words _ w)
+words-kept (SetPriority p i n) w h = step-keeps (λ u. u .words ≡ w .words) (SetPriority p i n) w refl (λ h. refl)
 words-kept (Query p) w h = step-keeps (λ u. u .words ≡ w .words) (Query p) w refl (λ h. refl)
 
 pub asked : (p : ℕ) (w : World) → step (Query p) w .world ≡ w

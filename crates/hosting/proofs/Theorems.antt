@@ -3,11 +3,13 @@
 use mathlib.Core.Path.{_≡_, refl, sym, ap, _∙_, subst₂}
 use mathlib.Core.Logic.{_↔_}
 use mathlib.Core.Bool.{false}
-use mathlib.Core.List.{List}
-use Prim.Native.Nat.{ℕ, _<_}
+use mathlib.Core.List.{List, [], _∷_, map}
+use Prim.Native.Nat.{ℕ, _+_, _*_, _<_}
 use lib.IntN.{ℤ, pos, negsuc, negℤ}
 use lib.Count.{ones, trailingZeros}
-use lib.ListN.{length, getD, replicate}
+use lib.ListN.{length, take, drop, getD, replicate}
+use lib.Dec.{eqb}
+use Rattle.tables.specs.declared.LastAnswer.the-variants.{NoneYet, Woken, TimedOut, Interrupted}
 use Rattle.rules.specs.declared.event.Event.{Event}
 use Rattle.rules.specs.declared.event.Event.the-variants.{Query}
 use Rattle.tables.specs.Sizes.{bytesPerProcess, memoryWords}
@@ -17,8 +19,9 @@ use Rattle.rules.specs.Events.{isQuery, step}
 use Rattle.rules.specs.History.{start, final, answers, keptFor, entriesOf}
 use Rattle.rules.specs.Claims.{Alike}
 use Rattle.rules.proofs.Theorems.{isolation}
-use Rattle.lists.specs.LittleEndian.{Bytes}
-use Rattle.layout.specs.Layout.{tablesBytes, tablesSize, wordsBytes, wordsAt, memorySize}
+use Rattle.lists.specs.Lists.{tabulate}
+use Rattle.lists.specs.LittleEndian.{Bytes, numberAt}
+use Rattle.layout.specs.Layout.{tablesBytes, tablesSize, lastOf, threadAt, stateAt, wordsBytes, wordsAt, memorySize}
 use Rattle.vradomil.specs.Host.{seen, hostNumber, reportSize}
 use Rattle.vradomil.proofs.Memory.{words-length}
 use Rattle.hosting.specs.Hosts.{Hosted, Heard, HostRuns, hearsAll, HistoryFits}
@@ -48,8 +51,30 @@ pub host-run : (room : Event → ℕ) {h : List Event} {b m b′ m′ : List ℕ
 host-run room {b = b} {m} lb lm run = ran room run (lent b m lb lm)
 
 -- the lengths of the two buffers
-pub host-sizes : (tablesSize ≡ 1296) × (memorySize ≡ 32768)
+pub host-sizes : (tablesSize ≡ 1360) × (memorySize ≡ 32768)
 host-sizes = (refl, refl)
+
+-- where each field stands in them: docs/TABLES.md, column by column
+pub host-columns : (b : List ℕ) (t : ℕ)
+    → threadAt b t
+    ≡ record {
+      waiting = eqb (getD b (80 + t) 0) 1;
+      uaddr = numberAt 4 (272 + 4 * t) b;
+      bitset = numberAt 4 (528 + 4 * t) b;
+      timed = eqb (getD b (144 + t) 0) 1;
+      deadline = numberAt 8 (784 + 8 * t) b;
+      last = lastOf (getD b (208 + t) 0);
+      priority = getD b (1296 + t) 0;
+    }
+host-columns b t = refl
+
+pub host-state : (b : List ℕ)
+    → stateAt b ≡ record { clock = numberAt 8 0 b; threads = tabulate 64 (threadAt b); list = take 64 (drop 16 b); count = numberAt 8 8 b }
+unfolding stateAt
+host-state b = refl
+
+pub host-last : map lastOf (0 ∷ 1 ∷ 2 ∷ 3 ∷ []) ≡ NoneYet ∷ Woken ∷ TimedOut ∷ Interrupted ∷ []
+host-last = refl
 
 -- "words: 32,768 bytes, .. another length is -6; tables of a wrong length .. are -9, and 0, 0, 8 to a panel query"
 pub host-lengths : {e : Event} {b m l b′ m′ t : List ℕ} {r : ℤ} → Hosted e b m l r b′ m′ t → ((p : ℕ) → e ≡ Query p → ⊥)

@@ -3,7 +3,7 @@ use mathlib.Core.List.{List, [], _∷_}
 use Prim.Native.Nat.{ℕ}
 use lib.IntN.{ℤ, pos, negℤ}
 use Rattle.rules.specs.declared.event.Event.{Event}
-use Rattle.rules.specs.declared.event.Event.the-variants.{Call, Store, Clock, Interrupt, Query}
+use Rattle.rules.specs.declared.event.Event.the-variants.{Call, Store, Clock, Interrupt, Query, SetPriority}
 use Rattle.hosting.specs.Hosts.{Heard}
 
 -- thread (p, i) waits at address 8, where flag says whether a timeout is given, or wakes there
@@ -35,6 +35,11 @@ day =
     -- a cap that is too high, and two wrong arguments at once: the lower reason
     ∷ wakes 0 2 2147483648
     ∷ Call (record { process = 0; index = 2; op = 3; uaddr = 9; val = 1; flag = 0; timeout = 2147483648; uaddr2 = 12; val3 = 0 })
+    -- "Answers in order: -6, -9, -3, -22 if above 31 (reason 8), else 0": a priority that is set, and three that are not
+    ∷ SetPriority 0 7 31
+    ∷ SetPriority 0 7 32
+    ∷ SetPriority 0 8 32
+    ∷ SetPriority 8 0 0
     ∷ []
 
 -- a number, and the reason beside it in a report of one byte
@@ -61,4 +66,8 @@ dayHeard =
     ∷ says (negℤ (pos 22)) 7
     ∷ says (negℤ (pos 22)) 1
     ∷ says (negℤ (pos 22)) 2
+    ∷ says (pos 0) 0
+    ∷ says (negℤ (pos 22)) 8
+    ∷ says (negℤ (pos 3)) 0
+    ∷ says (negℤ (pos 3)) 0
     ∷ []

@@ -6,10 +6,12 @@ use vradomil::call::vradomil_call;
 use vradomil::event::vradomil_clock;
 use vradomil::event::vradomil_interrupt;
 use vradomil::event::vradomil_query;
+use vradomil::event::vradomil_set_priority;
 use vradomil::event::vradomil_store;
 use vradomil::report::vradomil_call_report;
 use vradomil::report::vradomil_clock_report;
 use vradomil::report::vradomil_interrupt_report;
+use vradomil::report::vradomil_set_priority_report;
 use vradomil::report::vradomil_store_report;
 
 // An event as a host passes it to its entry point. The theorems take for known of an event what this and pass_report ensure, and no more.
@@ -52,6 +54,14 @@ pub fn pass(tables: &mut [u8], words: &mut [u8], e: Event) -> i64
         Event::Query { process } => {
             let n = vradomil_query(tables, process);
             n as i64
+        }
+        Event::SetPriority {
+            process,
+            index,
+            priority,
+        } => {
+            let r = vradomil_set_priority(tables, words, process, index, priority);
+            r as i64
         }
     }
 }
@@ -97,6 +107,14 @@ pub fn pass_report(tables: &mut [u8], words: &mut [u8], e: Event, report: &mut [
         Event::Query { process } => {
             let n = vradomil_query(tables, process);
             n as i64
+        }
+        Event::SetPriority {
+            process,
+            index,
+            priority,
+        } => {
+            let r = vradomil_set_priority_report(tables, words, process, index, priority, report);
+            r as i64
         }
     }
 }

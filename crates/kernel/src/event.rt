@@ -1,8 +1,8 @@
-// Other events: stores, clock events, interrupts and panel queries; and any event.
+// Other events: stores, clock events, interrupts, panel queries and set priorities; and any event.
 ghost use mathlib.Core.Path.{_≡_};
 ghost use Prim.Native.Nat.{_<_};
 ghost use Rattle.tables.specs.Sizes.{processes};
-ghost use Rattle.rules.specs.declared.event.Event.the-variants.{Store, Clock, Interrupt};
+ghost use Rattle.rules.specs.declared.event.Event.the-variants.{Store, Clock, Interrupt, SetPriority};
 ghost use Rattle.rules.specs.Events.{waitingSet, panel};
 ghost use Rattle.kernel.specs.Follows.{Follows};
 use crate::call::call;
@@ -13,6 +13,7 @@ use effects::counted;
 use effects::only_if;
 use refusals::of_clock;
 use refusals::of_interrupt;
+use refusals::of_priority;
 use refusals::of_store;
 use rules::answer::Answer;
 use rules::answer::Answered;
@@ -112,6 +113,21 @@ pub fn query(s: State, process: u8) -> Panel
     }
 }
 
+// A thread, asleep or not, gets another base priority.
+pub fn set_priority(s: State, words: &[u32], process: u8, index: u8, priority: u8) -> Answered
+    ensures { λ r. ⌜ Follows (SetPriority process index priority) s (now (words .entry)) r (now (words .entry)) ⌝ }
+{
+    let v = of_priority(s, words, process, index, priority);
+    match v {
+        Verdict::Refuse(x) => refused(x, s),
+        Verdict::Pass => {
+            let t = thread_index(process, index);
+            let next = s.set_priority(t, priority);
+            counted(0, next)
+        }
+    }
+}
+
 // Any event, for hosts and replays.
 pub fn apply(s: State, words: &mut [u32], e: Event) -> Answered
     ensures { λ r. ⌜ Follows e s (now (words .entry)) r (now (words .exit)) ⌝ }
@@ -132,5 +148,10 @@ pub fn apply(s: State, words: &mut [u32], e: Event) -> Answered
                 state: s,
             }
         }
+        Event::SetPriority {
+            process,
+            index,
+            priority,
+        } => set_priority(s, words, process, index, priority),
     }
 }

@@ -1,6 +1,6 @@
 -- The passes over the bytes say that they stand for tables, and that these keep the rules.
 use mathlib.Core.Path.{_≡_, refl, sym, ap, _∙_}
-use mathlib.Core.Bool.{Bool, true, false, not, cond, _&&_, _||_, Bool·beq, and-assoc, and-true, and-false, or-true}
+use mathlib.Core.Bool.{Bool, true, false, not, cond, _&&_, _||_, Bool·beq, and-assoc, and-comm, and-true, and-false, or-true}
 use mathlib.Core.List.{List}
 use Prim.Native.Nat.{ℕ, zero, suc, _+_, _≤_, _<_}
 use native.Mathlib.Omega.{arith}
@@ -15,7 +15,7 @@ use Rattle.lists.proofs.Count.{everyBelow-ext, everyBelow-and}
 use Rattle.lists.proofs.Tabulate.{length-tabulate, all-tabulate}
 use Rattle.tables.specs.declared.Thread.{Thread}
 use Rattle.tables.specs.Sizes.{threads}
-use Rattle.tables.specs.Tables.{threadOf, arrivals, sizesOk, recordOk, recordsOk, tailOk, tablesOk}
+use Rattle.tables.specs.Tables.{threadOf, arrivals, sizesOk, priorityOk, recordOk, recordsOk, tailOk, tablesOk}
 use Rattle.tables.specs.Steps.{flagged, SeenIn}
 use Rattle.tables.proofs.Checked.{checked}
 use Rattle.layout.specs.Layout.{maxLast, threadAt, stateAt, tablesAt, tablesSize, flagsOk, waitingAt, timedAt, lastAt, listAt}
@@ -23,7 +23,7 @@ use Rattle.layout.specs.Check.{flagsFit, agrees, placeOk, placeFits, tim
 use Rattle.layout.proofs.Reading.{thread-read}
 use Rattle.layout.proofs.Exact.{tables-exact}
 
--- a record's two rules are one, where none but a sleeper has a deadline
+-- the two rules of a record's sleep are one, where none but a sleeper has a deadline
 two-rules : (w t a b d z : Bool) → ((not t || w) && cond w a b && cond t d z) ≡ cond w (a && cond t d z) (b && not t && z)
 two-rules true true a b d z = refl
 two-rules true false a b d z = refl
@@ -31,9 +31,9 @@ two-rules false true a b d z = ap (λ x. x && z) (sym (and-false b))
 two-rules false false a b d z = ap (λ x. x && z) (sym (and-true b))
 
 record-rules : (now : ℕ) (r : Thread)
-    → ((not (r .timed) || r .waiting) && placeOk (r .waiting) (r .uaddr) (r .bitset) && timeOk now (r .timed) (r .deadline)) ≡ recordOk now r
+    → ((not (r .timed) || r .waiting) && placeOk (r .waiting) (r .uaddr) (r .bitset) && timeOk now (r .timed) (r .deadline) && priorityOk r) ≡ recordOk now r
 unfolding recordOk
-record-rules now r = two-rules (r .waiting) (r .timed) _ _ _ _
+record-rules now r = ap (_&& priorityOk r) (two-rules (r .waiting) (r .timed) _ _ _ _)
 
 -- a byte that is at most another, which is 0 or 1
 flag-rules : (w t l : ℕ) → (leb w 1 && leb t w && leb l maxLast) ≡ (leb w 1 && leb t 1 && leb l maxLast && (not (eqb t 1) || eqb w 1))
@@ -43,8 +43,9 @@ flag-rules zero (suc (suc t)) l = rw (lt-leb (suc (suc t)) 0 (omega arith), lt-l
 flag-rules (suc zero) t l = sym (ap (λ b. leb t 1 && leb l maxLast && b) (or-true (not (eqb t 1))) ∙ and-true (leb t 1 && leb l maxLast))
 flag-rules (suc (suc w)) t l = rw (lt-leb (suc (suc w)) 1 (omega arith))
 
-and-move : (f q p t : Bool) → (f && q && p && t) ≡ (f && (q && p && t))
-and-move f q p t = simp and-assoc
+-- the priority is tested with the flags, and is the last rule of a record
+and-move : (f q n p t : Bool) → (f && q && n && p && t) ≡ (f && (q && p && t && n))
+and-move f q n p t = simp and-assoc (ap (λ x. f && (q && x)) (and-comm n (p && t) ∙ and-assoc p t n))
 
 regroup : (o t g m p q f r : Bool) → (g && p && q) ≡ (f && r) → (o && t && (g && m) && p && q) ≡ (f && (o && t && (m && r)))
 regroup false t g m p q f r e = sym (and-false f)
@@ -75,8 +76,8 @@ module _ (b : List ℕ) (size : length b ≡ tablesSize) where
       let r = threadAt b in
       let records : recordsOk (stateAt b) ≡ everyBelow threads (λ i. recordOk now (r i)) = unfold stateAt in all-tabulate (recordOk now) threads r in
       let row : (i : ℕ) → i < threads → (flagsFit b i && placeFits b i && timeFits now b i) ≡ (flagsOk b i && recordOk now (r i)) =
-      λ i l. ap (λ x. x && placeFits b i && timeFits now b i) (flag-rules (getD b (waitingAt + i) 0) (getD b (timedAt + i) 0) (getD b (lastAt + i) 0))
-      ∙ and-move (flagsOk b i) (not (r i .timed) || r i .waiting) (placeFits b i) (timeFits now b i)
+      λ i l. ap (λ x. x && priorityOk (r i) && placeFits b i && timeFits now b i) (flag-rules (getD b (waitingAt + i) 0) (getD b (timedAt + i) 0) (getD b (lastAt + i) 0))
+      ∙ and-move (flagsOk b i) (not (r i .timed) || r i .waiting) (priorityOk (r i)) (placeFits b i) (timeFits now b i)
       ∙ ap (λ x. flagsOk b i && x) (record-rules now (r i)) in
       sym (everyBelow-and threads (λ i. flagsFit b i && placeFits b i) (timeFits now b)
       ∙ ap (λ x. x && everyBelow threads (timeFits now b)) (everyBelow-and threads (flagsFit b) (placeFits b)))

@@ -6,14 +6,17 @@ use Prim.Native.Nat.{ℕ, _+_}
 use lib.ListN.{length, getD}
 use lib.Dec.{eqb, leb, ltb}
 use Rattle.tables.specs.Sizes.{bytesPerProcess}
-use Rattle.tables.specs.Tables.{aligned, tablesOk}
+use Rattle.tables.specs.Tables.{aligned, priorityOk, tablesOk}
 use Rattle.tables.specs.Steps.{flagged}
 use Rattle.layout.specs.Layout.{maxLast, waitingAt, timedAt, lastAt, threadAt, stateAt, tablesBytes, tablesAt, tablesSize}
 
--- the flags of thread i stand for something, and a thread with a deadline waits
+-- the flags of thread i stand for something, a thread with a deadline waits, and its priority keeps its rule
 abbrev pub flagsFit : List ℕ → ℕ → Bool
 flagsFit b i =
-    leb (getD b (waitingAt + i) 0) 1 && leb (getD b (timedAt + i) 0) (getD b (waitingAt + i) 0) && leb (getD b (lastAt + i) 0) maxLast
+    leb (getD b (waitingAt + i) 0) 1
+    && leb (getD b (timedAt + i) 0) (getD b (waitingAt + i) 0)
+    && leb (getD b (lastAt + i) 0) maxLast
+    && priorityOk (threadAt b i)
 
 -- thread i is marked where it waits
 abbrev pub agrees : List Bool → List ℕ → ℕ → Bool

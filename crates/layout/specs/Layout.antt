@@ -55,6 +55,7 @@ threadFields =
     ∷ field wordBytes (λ r. r .uaddr)
     ∷ field wordBytes (λ r. r .bitset)
     ∷ field timeBytes (λ r. r .deadline)
+    ∷ field 1 (λ r. r .priority)
     ∷ []
 
 -- the tables in columns: clock, count, list, then a column for each field of the records
@@ -97,8 +98,11 @@ bitsetAt = uaddrAt + wordBytes * threads
 abbrev pub deadlineAt : ℕ
 deadlineAt = bitsetAt + wordBytes * threads
 
+abbrev pub priorityAt : ℕ
+priorityAt = deadlineAt + timeBytes * threads
+
 abbrev pub tablesSize : ℕ
-tablesSize = deadlineAt + timeBytes * threads
+tablesSize = priorityAt + threads
 
 abbrev pub lastOf : ℕ → LastAnswer
 lastOf n = cond (eqb n 0) NoneYet (cond (eqb n 1) Woken (cond (eqb n 2) TimedOut Interrupted))
@@ -113,6 +117,7 @@ threadAt b i =
       timed = eqb (getD b (timedAt + i) 0) 1;
       deadline = numberAt timeBytes (deadlineAt + timeBytes * i) b;
       last = lastOf (getD b (lastAt + i) 0);
+      priority = getD b (priorityAt + i) 0;
     }
 
 unfoldable pub stateAt : List ℕ → State

@@ -11,6 +11,7 @@ use crate::CLOCK_AT;
 use crate::COUNT_AT;
 use crate::DEADLINE_AT;
 use crate::LAST_AT;
+use crate::PRIORITY_AT;
 use crate::TABLES_SIZE;
 use crate::TIME_SIZE;
 use crate::TIMED_AT;
@@ -22,6 +23,7 @@ use arrivals::seen_in;
 use arrivals::tail_ok;
 use numbers::u32_at;
 use numbers::u64_at;
+use tables::MAX_PRIORITY;
 use tables::PROCESS_BYTES;
 use tables::THREADS;
 use tables::WORD_BYTES;
@@ -29,7 +31,8 @@ use tables::WORD_BYTES;
 // No greater byte stands for a last answer.
 const MAX_LAST: u8 = 3;
 
-// The flags of each thread stand for something, none but a sleeper has a deadline, and the marked threads are the waiting ones.
+// The flags of each thread stand for something, none but a sleeper has a deadline, no priority is above the highest, and the marked
+// threads are the waiting ones.
 fn flags_ok(b: &[u8], marks: [bool; THREADS]) -> bool
     requires { ⌜ length (now b) ≡ tablesSize ⌝ }
     ensures { λ r. ⌜ r ≡ everyBelow threads (λ i. flagsFit (now (b .entry)) i && agrees marks (now (b .entry)) i) ⌝ }
@@ -40,10 +43,12 @@ fn flags_ok(b: &[u8], marks: [bool; THREADS]) -> bool
         let waiting = b[WAITING_AT + i];
         let timed = b[TIMED_AT + i];
         let last = b[LAST_AT + i];
+        let priority = b[PRIORITY_AT + i];
         ok = ok
             & ((waiting <= 1)
                 & (timed <= waiting)
                 & (last <= MAX_LAST)
+                & (priority <= MAX_PRIORITY)
                 & (marks[i] == (waiting == 1)));
         i += 1;
     }

@@ -29,4 +29,6 @@ pub const BITSET_AT: usize = UADDR_AT + WORD_SIZE * THREADS;
 
 pub const DEADLINE_AT: usize = BITSET_AT + WORD_SIZE * THREADS;
 
-pub const TABLES_SIZE: usize = DEADLINE_AT + TIME_SIZE * THREADS;
+pub const PRIORITY_AT: usize = DEADLINE_AT + TIME_SIZE * THREADS;
+
+pub const TABLES_SIZE: usize = PRIORITY_AT + THREADS;

@@ -14,6 +14,7 @@ use crate::COUNT_AT;
 use crate::DEADLINE_AT;
 use crate::LAST_AT;
 use crate::LIST_AT;
+use crate::PRIORITY_AT;
 use crate::TIME_SIZE;
 use crate::TIMED_AT;
 use crate::UADDR_AT;
@@ -50,6 +51,7 @@ pub fn thread_at(b: &[u8], i: usize) -> Thread
     let uaddr = u32_at(b, UADDR_AT + WORD_SIZE * i);
     let bitset = u32_at(b, BITSET_AT + WORD_SIZE * i);
     let deadline = u64_at(b, DEADLINE_AT + TIME_SIZE * i);
+    let priority = b[PRIORITY_AT + i];
     Thread {
         waiting: waiting == 1,
         uaddr: uaddr,
@@ -57,6 +59,7 @@ pub fn thread_at(b: &[u8], i: usize) -> Thread
         timed: timed == 1,
         deadline: deadline,
         last: last,
+        priority: priority,
     }
 }
 

@@ -1,7 +1,7 @@
 // Refusals: which row of the table of answers refuses an event, or none. It stands on verdicts and tables.
 ghost use mathlib.Core.Path.{_≡_};
 ghost use lib.ListN.{getD};
-ghost use Rattle.rules.specs.declared.event.Event.the-variants.{Call as CallEvent, Store, Clock, Interrupt};
+ghost use Rattle.rules.specs.declared.event.Event.the-variants.{Call as CallEvent, Store, Clock, Interrupt, SetPriority};
 ghost use Rattle.rules.specs.declared.answer.Verdict.the-variants.{Refuse};
 ghost use Rattle.rules.specs.Answers.{byRows, first};
 ghost use Rattle.rules.specs.Calls.{firstRows};
@@ -23,6 +23,7 @@ use verdicts::invalid;
 use verdicts::no_thread;
 use verdicts::row;
 use verdicts::verdict_on;
+use verdicts::verdict_on_priority;
 
 // The rows of the memory and the tables, before the rows below them.
 fn tested(s: State, words: &[u32], below: Verdict) -> Verdict
@@ -71,5 +72,12 @@ pub fn of_interrupt(s: State, words: &[u32], process: u8, index: u8) -> Verdict
     ensures { λ r. ⌜ r ≡ first (refusals (Interrupt process index) (world s (now (words .entry)))) ⌝ }
 {
     let v = row(Errno::ESRCH, no_thread(process, index), Verdict::Pass);
+    tested(s, words, v)
+}
+
+pub fn of_priority(s: State, words: &[u32], process: u8, index: u8, priority: u8) -> Verdict
+    ensures { λ r. ⌜ r ≡ first (refusals (SetPriority process index priority) (world s (now (words .entry)))) ⌝ }
+{
+    let v = verdict_on_priority(process, index, priority);
     tested(s, words, v)
 }

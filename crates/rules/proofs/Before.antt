@@ -3,7 +3,7 @@
 use mathlib.Core.Path.{_≡_, refl, sym, ap, _∙_}
 use mathlib.Core.Bool.{Bool, true, false, not, cond, _&&_, _||_, or-true}
 use Prim.Native.Nat.{_-_, _^_, _<_}
-use mathlib.Core.List.{List, [], _∷_}
+use mathlib.Core.List.{List, [], _∷_, map}
 use lib.Dec.{eqb}
 use lib.IntN.{pos, negℤ}
 use borrow.Author.Tests.{eq-eqb, not-true, lt-leb}
@@ -12,7 +12,7 @@ use Rattle.rules.specs.declared.event.Command.{Command}
 use Rattle.rules.specs.declared.event.Command.the-variants.{Wait, Wake, Requeue, CmpRequeue, WakeOp, WaitBitset, WakeBitset, Unknown}
 use Rattle.rules.specs.declared.event.Call.{Call}
 use Rattle.rules.specs.declared.event.Event.{Event}
-use Rattle.rules.specs.declared.event.Event.the-variants.{Call as CallEvent, Store, Clock, Interrupt, Query}
+use Rattle.rules.specs.declared.event.Event.the-variants.{Call as CallEvent, Store, Clock, Interrupt, Query, SetPriority}
 use Rattle.rules.specs.declared.answer.Errno.{Errno}
 use Rattle.rules.specs.declared.answer.Errno.the-variants.{ENXIO, EBADF, ESRCH, EBUSY, ENOSYS, EINVAL, EFAULT, EAGAIN, ETIMEDOUT}
 use Rattle.rules.specs.declared.answer.Refusal.{Refusal}
@@ -25,10 +25,11 @@ use Rattle.rules.specs.Commands.{commandOf}
 use Rattle.rules.specs.Signed.{negative}
 use Rattle.rules.specs.WakeOp.{argBits, isPower, opArgField, cmpArgField}
 use Rattle.rules.specs.Calls.{caller, isWakeOp, oldWord, callRows, releasedSecond, wait, wake, requeue, wakeOp, callEffect}
-use Rattle.rules.specs.Events.{refusals, clockEffect, interruptEffect, effect, step}
-use Rattle.rules.specs.Before.{refusalsWithoutReasons, stepWithoutReasons, withoutReason, effectUnsigned, stepUnsigned, noneNegative, minus12, numbersWith12, OutcomeWith12, asWith12, full, judgedWith12, stepWith12}
+use Rattle.rules.specs.Events.{ownRows, isQuery, refusals, clockEffect, interruptEffect, effect, step}
+use Rattle.rules.specs.Before.{rowWithoutReason, refusalsWithoutReasons, stepWithoutReasons, withoutReason, effectUnsigned, stepUnsigned, noneNegative, minus12, numbersWith12, OutcomeWith12, asWith12, full, judgedWith12, stepWith12}
 use Rattle.rules.specs.Claims.{Clear}
 use Rattle.tables.proofs.Sound.{room}
+use Rattle.rules.proofs.ByEvent.{by-call}
 use Rattle.rules.proofs.Rows.{rows-clear, rows-refused, _and_, verdicts, step-refused, step-clear}
 use Rattle.rules.proofs.Passed.{clear-passed, caller-below}
 use Rattle.rules.proofs.Refused.{refusal-of}
@@ -37,13 +38,15 @@ use Rattle.rules.proofs.Commands.{by-command}
 use Rattle.rules.proofs.WakeOp.{newWord-plain, compares-plain}
 
 module _ {ℓ} {A : Type ℓ} (f : Errno → A) where
+  plain-rows : (rs : List Row) (below : A) → byErrno f rs below ≡ byErrno f (map rowWithoutReason rs) below
+  plain-rows [] below = refl
+  plain-rows (r ∷ rs) below = ap (cond (r .applies) (f (r .refusal .errno))) (plain-rows rs below)
+
   rows-before : (e : Event) (w : World) (below : A) → byErrno f (refusals e w) below ≡ byErrno f (refusalsWithoutReasons e w) below
   unfolding refusals refusalsWithoutReasons callRows
-  rows-before (CallEvent c) w below = rw (arguments-one f (commandOf (c .op)) c _ below)
-  rows-before (Store p a v) w below = refl
-  rows-before (Clock now) w below = refl
-  rows-before (Interrupt p i) w below = refl
-  rows-before (Query p) w below = refl
+  rows-before e w below = by-call (λ e. byErrno f (refusals e w) below ≡ byErrno f (refusalsWithoutReasons e w) below)
+      (λ c. rw (arguments-one f (commandOf (c .op)) c _ below))
+      (λ e none. cases (isQuery e) (λ q. rw q) (λ q. rw (q, none (List Row) _ _, plain-rows (ownRows e w) below))) e
 
 -- a step by its errors: of the rules that hold now, reasons taken away, and of the rules before
 now-by-errno : (rs : List Row) (o : Outcome) (w : World)
@@ -61,13 +64,15 @@ before-by-errno : (rs : List Row) → Plain rs → (o : Outcome) (w : World) →
 before-by-errno [] h o w = refl
 before-by-errno (r ∷ rs) h o w = cases (r .applies) (λ e. rw e (ap (λ x. outcome (Refused x) w) (h .0))) (λ e. rw e (before-by-errno rs (h .1) o w))
 
+plain-mapped : (rs : List Row) → Plain (map rowWithoutReason rs)
+plain-mapped [] = tt
+plain-mapped (r ∷ rs) = refl and plain-mapped rs
+
 plain-before : (e : Event) (w : World) → Plain (refusalsWithoutReasons e w)
 unfolding refusalsWithoutReasons
-plain-before (CallEvent c) w = refl and refl and refl and refl and refl and refl and refl and refl and refl and refl and tt
-plain-before (Store p a v) w = refl and refl and refl and refl and refl and tt
-plain-before (Clock now) w = refl and refl and refl and tt
-plain-before (Interrupt p i) w = refl and refl and refl and tt
-plain-before (Query p) w = tt
+plain-before e w = by-call (λ e. Plain (refusalsWithoutReasons e w))
+    (λ c. refl and refl and refl and refl and refl and refl and refl and refl and refl and refl and tt)
+    (λ e none. cases (isQuery e) (λ q. rw q tt) (λ q. rw (q, none (List Row) _ _) (refl and refl and plain-mapped (ownRows e w)))) e
 
 -- what an event does where nothing refuses it has no reason beside it
 command-plain : (k : Command) (c : Call) (w : World) → withoutReason (callEffect k c w .answer) ≡ callEffect k c w .answer
@@ -81,6 +86,7 @@ effect-plain (Store p a v) w = refl
 effect-plain (Clock now) w = refl
 effect-plain (Interrupt p i) w = cases (threadOf (w .state) (threadNumber p i) .waiting) (λ e. rw e) (λ e. rw e)
 effect-plain (Query p) w = refl
+effect-plain (SetPriority p i n) w = refl
 
 pub as-before-reasons : (e : Event) (w : World) → outcome (withoutReason (step e w .answer)) (step e w .world) ≡ stepWithoutReasons e w
 unfolding step stepWithoutReasons
@@ -105,9 +111,9 @@ wake-op WaitBitset c w h = clash false h refl
 wake-op WakeBitset c w h = clash false h refl
 wake-op Unknown c w h = clash false h refl
 
-effect-unsigned : (e : Event) (w : World) → noneNegative e w ≡ true → effect e w ≡ effectUnsigned e w
+call-unsigned : (c : Call) (w : World) → noneNegative (CallEvent c) w ≡ true → effect (CallEvent c) w ≡ effectUnsigned (CallEvent c) w
 unfolding effect wakeOp releasedSecond
-effect-unsigned (CallEvent c) w h =
+call-unsigned c w h =
     let k = commandOf (c .op) in
     let p = isPower (c .val3) || not (negative argBits (opArgField (c .val3))) in
     let q = negative argBits (cmpArgField (c .val3)) in
@@ -122,10 +128,10 @@ effect-unsigned (CallEvent c) w h =
       compares-plain (c .val3) (oldWord c w) (not-true q (and-right p (not q) both)) (not-true r (and-right (p && not q) (not r) low)),
     ))
     (λ e. rw e)
-effect-unsigned (Store p a v) w h = refl
-effect-unsigned (Clock now) w h = refl
-effect-unsigned (Interrupt p i) w h = refl
-effect-unsigned (Query p) w h = refl
+
+effect-unsigned : (e : Event) (w : World) → noneNegative e w ≡ true → effect e w ≡ effectUnsigned e w
+effect-unsigned e w = by-call (λ e. noneNegative e w ≡ true → effect e w ≡ effectUnsigned e w)
+    (λ c. call-unsigned c w) (λ e none h. sym (none Outcome _ (effect e w))) e
 
 pub as-before-signs : (e : Event) (w : World) → noneNegative e w ≡ true → step e w ≡ stepUnsigned e w
 unfolding step stepUnsigned
@@ -140,13 +146,11 @@ as-before-below c w p q r =
 -- With -12.
 
 never-full : (e : Event) (w : World) → Clear (refusals e w) → full e w ≡ false
-never-full (CallEvent c) w h =
+never-full e w = by-call (λ e. Clear (refusals e w) → full e w ≡ false)
+    (λ c h.
     let g = clear-passed c w h in
-    lt-leb threads (w .state .count) (room (w .state) (g .sound) (caller c) (caller-below c (g .process) (g .index)) (g .runs))
-never-full (Store p a v) w h = refl
-never-full (Clock now) w h = refl
-never-full (Interrupt p i) w h = refl
-never-full (Query p) w h = refl
+    lt-leb threads (w .state .count) (room (w .state) (g .sound) (caller c) (caller-below c (g .process) (g .index)) (g .runs)))
+    (λ e none h. none Bool _ false) e
 
 pub judged-refused : (x : Refusal) (rows : List Row) (applies : Bool) (o : Outcome) (w : World) → first rows ≡ Refuse x
     → judgedWith12 rows applies o w ≡ asWith12 (outcome (Refused x) w)

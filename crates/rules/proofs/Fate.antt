@@ -9,18 +9,18 @@ use Rattle.lists.proofs.Filter.{all-filter}
 use Rattle.lists.proofs.Occurs.{elem-one, elem-all}
 use Rattle.rules.specs.declared.event.Call.{Call}
 use Rattle.rules.specs.declared.event.Event.{Event}
-use Rattle.rules.specs.declared.event.Event.the-variants.{Call as CallEvent, Store, Clock, Interrupt, Query}
+use Rattle.rules.specs.declared.event.Event.the-variants.{Call as CallEvent, Store, Clock, Interrupt, Query, SetPriority}
 use Rattle.rules.specs.declared.answer.Answer.the-variants.{Asleep, Count}
-use Rattle.tables.specs.Tables.{expired, expiredSleepers, World, threadNumber, freshThread, threadOf, arrivals, fallAsleep, writeWord}
+use Rattle.tables.specs.Tables.{expired, expiredSleepers, World, threadNumber, freshThread, threadOf, arrivals, withPriority, fallAsleep, setPriority, writeWord}
 use Rattle.rules.specs.Answers.{Outcome}
 use Rattle.rules.specs.Commands.{commandOf}
 use Rattle.rules.specs.Calls.{caller}
 use Rattle.rules.specs.Events.{refusals, effect, step, clockEffect, interruptEffect}
-use Rattle.rules.specs.Claims.{Clear, wokenBy, movedBy, sleepsBy, Fate, stays, sleeps, wakes, moves, timesOut, isInterrupted}
+use Rattle.rules.specs.Claims.{Clear, wokenBy, movedBy, sleepsBy, Fate, stays, sleeps, wakes, moves, timesOut, isInterrupted, isSet}
 use Rattle.rules.proofs.Rows.{verdicts, step-refused, step-clear}
 use Rattle.tables.proofs.Changes.{change-other, change-named}
 use Rattle.tables.proofs.Sound.{tables-sound}
-use Rattle.rules.proofs.Passed.{clear-passed, caller-below, sound-of}
+use Rattle.rules.proofs.Passed.{clear-passed, caller-below, thread-process, thread-index, sound-of}
 use Rattle.rules.proofs.Refused.{granted-answer}
 use Rattle.rules.proofs.Sleeps.{asleep-sleeps, asleep-leaves}
 use Rattle.rules.proofs.Taken.{takes-first, took-expired, took-interrupted}
@@ -85,6 +85,29 @@ module _ (w : World) (t : ℕ) where
       (λ e. stays (done ∙ rw on (took .stayed t e refl))))
       (λ off. stays (done ∙ rw off))
 
+  priority-fate : (p i n : ℕ) → Clear (refusals (SetPriority p i n) w) → Fate (SetPriority p i n) w t
+  unfolding refusals effect setPriority
+  priority-fate p i n r =
+      let u = threadNumber p i in
+      let g = sound-of w (r .1 .0) in
+      let done = step-clear (SetPriority p i n) w r in
+      let left = ap (λ (o : Outcome). threadOf (o .world .state) t) done in
+      cases (elem t (u ∷ []))
+      (λ e.
+      let it : t ≡ u = elem-one t u e in
+      let process = thread-process p i (r .1 .1 .0) in
+      let index = thread-index p i (r .1 .1 .0) in
+      isSet (record {
+        process = p;
+        index = i;
+        priority = n;
+        event = refl;
+        thread = it;
+        answer = ap (λ (o : Outcome). o .answer) done;
+        left = left ∙ change-named (withPriority n) (u ∷ []) (w .state .threads) t freshThread e (omega (arith, g .records));
+      }))
+      (λ e. stays (left ∙ change-other (withPriority n) (u ∷ []) (w .state .threads) t freshThread e))
+
   passed-fate : (e : Event) → Clear (refusals e w) → Fate e w t
   unfolding effect writeWord
   passed-fate (CallEvent c) r = call-fate c r
@@ -92,6 +115,7 @@ module _ (w : World) (t : ℕ) where
   passed-fate (Clock now) r = clock-fate now r
   passed-fate (Interrupt p i) r = interrupt-fate p i r
   passed-fate (Query p) r = stays (ap (λ (o : Outcome). threadOf (o .world .state) t) (step-clear (Query p) w r))
+  passed-fate (SetPriority p i n) r = priority-fate p i n r
 
 -- There is no other way.
 pub fate : (e : Event) (w : World) (t : ℕ) → Fate e w t

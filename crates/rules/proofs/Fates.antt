@@ -22,7 +22,7 @@ use Rattle.rules.specs.Answers.{Outcome, lastNumber}
 use Rattle.rules.specs.Commands.{commandOf, uses}
 use Rattle.rules.specs.Calls.{isWakeOp, caller, matches, released, moved, releasedSecond}
 use Rattle.rules.specs.Events.{refusals, effect, step}
-use Rattle.rules.specs.Claims.{Sleeps, sleepsBy, wokenBy, movedBy, before, after, Fate, stays, sleeps, wakes, moves, timesOut, isInterrupted}
+use Rattle.rules.specs.Claims.{Sleeps, sleepsBy, wokenBy, movedBy, before, after, PrioritySet, Fate, stays, sleeps, wakes, moves, timesOut, isInterrupted, isSet}
 use Rattle.tables.proofs.Sound.{listed-waiting}
 use Rattle.rules.proofs.Rows.{verdicts, step-refused, step-clear}
 use Rattle.rules.proofs.Passed.{clear-passed}
@@ -85,6 +85,7 @@ module _ (e : Event) (w : World) (t : ℕ) where
   comes-back on off (moves c is out new) = clash (after e w t .waiting) (ap (λ (r : Thread). r .waiting) new ∙ on) off
   comes-back on off (timesOut now is late new) = inr (inl (now, is, late, ap (λ (r : Thread). lastNumber (r .last)) new))
   comes-back on off (isInterrupted p i is it was new) = inr (inr (p, i, is, it, ap (λ (r : Thread). lastNumber (r .last)) new))
+  comes-back on off (isSet set) = clash (after e w t .waiting) (ap (λ (r : Thread). r .waiting) (set .left) ∙ on) off
 
   pub falls-asleep : before w t .waiting ≡ false → after e w t .waiting ≡ true → Fate e w t
       → (c : Call) × (e ≡ CallEvent c) × (t ≡ caller c) × Sleeps c w
@@ -94,21 +95,24 @@ module _ (e : Event) (w : World) (t : ℕ) where
   falls-asleep off on (moves c is out new) = clash (after e w t .waiting) on (ap (λ (r : Thread). r .waiting) new ∙ off)
   falls-asleep off on (timesOut now is late new) = clash (after e w t .waiting) on (ap (λ (r : Thread). r .waiting) new)
   falls-asleep off on (isInterrupted p i is it was new) = clash (after e w t .waiting) on (ap (λ (r : Thread). r .waiting) new)
+  falls-asleep off on (isSet set) = clash (after e w t .waiting) on (ap (λ (r : Thread). r .waiting) (set .left) ∙ off)
 
-  -- asleep before and after: its record is as it was, or a requeue moved it
+  -- asleep before and after: its record is as it was, a requeue moved it, or its priority was set
   pub sleeps-on : before w t .waiting ≡ true → after e w t .waiting ≡ true → Fate e w t
       → (after e w t ≡ before w t)
       ⊎ ((c : Call) × (e ≡ CallEvent c) × (elem t (movedBy (commandOf (c .op)) c w) ≡ true) × (after e w t ≡ movedTo (c .uaddr2) (before w t)))
+      ⊎ PrioritySet e w t
   sleeps-on on still (stays same) = inl same
   sleeps-on on still (sleeps c is it s new) = clash (before w t .waiting) on (ap (λ u. before w u .waiting) it ∙ s .runs)
   sleeps-on on still (wakes c is out new) = clash (after e w t .waiting) still (ap (λ (r : Thread). r .waiting) new)
-  sleeps-on on still (moves c is out new) = inr (c, is, out, new)
+  sleeps-on on still (moves c is out new) = inr (inl (c, is, out, new))
   sleeps-on on still (timesOut now is late new) = clash (after e w t .waiting) still (ap (λ (r : Thread). r .waiting) new)
   sleeps-on on still (isInterrupted p i is it was new) = clash (after e w t .waiting) still (ap (λ (r : Thread). r .waiting) new)
+  sleeps-on on still (isSet set) = inr (inr set)
 
-  -- running before and after: its record is as it was
-  pub runs-on : before w t .waiting ≡ false → after e w t .waiting ≡ false → Fate e w t → after e w t ≡ before w t
-  runs-on off still (stays same) = same
+  -- running before and after: its record is as it was, or its priority was set
+  pub runs-on : before w t .waiting ≡ false → after e w t .waiting ≡ false → Fate e w t → (after e w t ≡ before w t) ⊎ PrioritySet e w t
+  runs-on off still (stays same) = inl same
   runs-on off still (sleeps c is it s new) = clash (after e w t .waiting) (ap (λ (r : Thread). r .waiting) new) still
   runs-on off still (wakes c is out new) = clash (before w t .waiting) (woken-waits (commandOf (c .op)) c w t out) off
   runs-on off still (moves c is on new) = clash (before w t .waiting) (moved-waits (commandOf (c .op)) c w t on) off
@@ -116,3 +120,4 @@ module _ (e : Event) (w : World) (t : ℕ) where
       let r = before w t in
       clash (r .waiting) (and-left (r .waiting) (r .timed) (and-left (r .waiting && r .timed) (leb (r .deadline) now) late)) off
   runs-on off still (isInterrupted p i is it was new) = clash (before w t .waiting) was off
+  runs-on off still (isSet set) = inr set

@@ -9,7 +9,7 @@ use borrow.Author.Tests.{eqb-true, eqb-false, lt-leb}
 use Rattle.lists.proofs.Tests.{cases, clash}
 use Rattle.lists.proofs.Update.{update-alike}
 use Rattle.rules.specs.declared.event.Event.{Event}
-use Rattle.rules.specs.declared.event.Event.the-variants.{Call as CallEvent, Store, Clock, Interrupt, Query}
+use Rattle.rules.specs.declared.event.Event.the-variants.{Call as CallEvent, Store, Clock, Interrupt, Query, SetPriority}
 use Rattle.tables.specs.Sizes.{wordsPerProcess, wordBytes, bytesPerProcess}
 use Rattle.tables.specs.Tables.{World, threadNumber, wordNumber, wordAt, threadOf, arrivals}
 use Rattle.rules.specs.Answers.{Outcome}
@@ -18,7 +18,7 @@ use Rattle.rules.specs.History.{start, final, Named, process, nobody, na
 use Rattle.rules.specs.Claims.{Alike}
 use Rattle.rules.proofs.Preserved.{Valid, step-valid}
 use Rattle.rules.proofs.View.{view-state, ownWord, onlyOwn, viewState, view, own-thread, view-own, view-arrivals, view-word}
-use Rattle.rules.proofs.Own.{viewOut, step-call, step-store, step-interrupt, step-query, step-clock}
+use Rattle.rules.proofs.Own.{viewOut, step-call, step-store, step-interrupt, step-query, step-priority, step-clock}
 use Rattle.rules.proofs.Other.{step-other}
 
 module _ (p : ℕ) where
@@ -30,6 +30,7 @@ module _ (p : ℕ) where
   own-step (Clock now) w g n = clash true refl (sym n)
   own-step (Interrupt q i) w g n = rw (eqb-true q p n) (step-interrupt w g p i)
   own-step (Query q) w g n = rw (eqb-true q p n) (step-query w g p)
+  own-step (SetPriority q i m) w g n = rw (eqb-true q p n) (step-priority w g p i m)
 
   pub kept-step : (e : Event) (w : World) → Valid w → isKept p (named e) ≡ true → view p (step e w .world) ≡ step e (view p w) .world
   kept-step (CallEvent c) w g n = ap (λ (o : Outcome). o .world) (own-step (CallEvent c) w g n)
@@ -37,6 +38,7 @@ module _ (p : ℕ) where
   kept-step (Clock now) w g n = step-clock w g p now
   kept-step (Interrupt q i) w g n = ap (λ (o : Outcome). o .world) (own-step (Interrupt q i) w g n)
   kept-step (Query q) w g n = ap (λ (o : Outcome). o .world) (own-step (Query q) w g n)
+  kept-step (SetPriority q i m) w g n = ap (λ (o : Outcome). o .world) (own-step (SetPriority q i m) w g n)
 
   pub struck-step : (e : Event) (w : World) → isKept p (named e) ≡ false → view p (step e w .world) ≡ view p w
   struck-step e w n = go (named e) refl n

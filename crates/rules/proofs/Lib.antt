@@ -1,3 +1,4 @@
+pub mod ByEvent
 pub mod Rows
 pub mod Commands
 pub mod Passed
@@ -11,6 +12,7 @@ pub mod Local
 pub mod Fate
 pub mod Requeued
 pub mod LostWake
+pub mod Priorities
 pub mod View
 pub mod Own
 pub mod Other

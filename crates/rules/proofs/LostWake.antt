@@ -25,7 +25,7 @@ use Rattle.rules.specs.Commands.{commandOf, uses}
 use Rattle.rules.specs.Calls.{matches, candidates, released, moved}
 use Rattle.rules.specs.Events.{refusals, step}
 use Rattle.rules.specs.History.{final}
-use Rattle.rules.specs.Claims.{Took, wokenBy, movedBy, Fate, stays, sleeps, wakes, moves, timesOut, isInterrupted, asleepThere, Enters, byWait, byRequeue, sleptThrough, Since}
+use Rattle.rules.specs.Claims.{Took, wokenBy, movedBy, Fate, stays, sleeps, wakes, moves, timesOut, isInterrupted, isSet, asleepThere, Enters, byWait, byRequeue, sleptThrough, Since}
 use Rattle.tables.proofs.Sound.{Sound, listed-waiting}
 use Rattle.rules.proofs.Passed.{clear-passed}
 use Rattle.rules.proofs.Chosen.{candidate-own, moved-pass}
@@ -65,6 +65,7 @@ module _ (t a : ℕ) where
           byRequeue c (n .0) is (ap (λ x. step x w .answer) is ∙ n .1) (m .0) (m .1) (ap (λ (r : Thread). r .uaddr) (sym new) ∙ at-address (threadOf (step e w .world .state) t) now-asleep) (m .2)
       go (timesOut now is late new) = clash false (not-running (threadOf (step e w .world .state) t) (ap (λ (r : Thread). r .waiting) new) now-asleep) refl
       go (isInterrupted p i is it on new) = clash false (not-running (threadOf (step e w .world .state) t) (ap (λ (r : Thread). r .waiting) new) now-asleep) refl
+      go (isSet set) = clash (asleepThere t a w) (ap (λ (r : Thread). r .waiting && eqb (r .uaddr) a) (sym (set .left)) ∙ now-asleep) was-not
 
   pub starts-asleep : (h : List Event) (w : World) → sleptThrough t a h w ≡ true → asleepThere t a w ≡ true
   starts-asleep [] w h = h

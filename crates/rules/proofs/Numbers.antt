@@ -12,7 +12,7 @@ use Rattle.rules.specs.declared.event.Command.{Command}
 use Rattle.rules.specs.declared.event.Command.the-variants.{Wait, Wake, Requeue, CmpRequeue, WakeOp, WaitBitset, WakeBitset, Unknown}
 use Rattle.rules.specs.declared.event.Call.{Call}
 use Rattle.rules.specs.declared.event.Event.{Event}
-use Rattle.rules.specs.declared.event.Event.the-variants.{Call as CallEvent, Store, Clock, Interrupt, Query}
+use Rattle.rules.specs.declared.event.Event.the-variants.{Call as CallEvent, Store, Clock, Interrupt, Query, SetPriority}
 use Rattle.rules.specs.declared.answer.Errno.{Errno}
 use Rattle.rules.specs.declared.answer.Errno.the-variants.{ENXIO, EBADF, ESRCH, EBUSY, ENOSYS, EINVAL, EFAULT, EAGAIN, ETIMEDOUT}
 use Rattle.rules.specs.declared.answer.Reason.the-variants.{NoReason}
@@ -57,6 +57,7 @@ effect-number (Store p a v) w = refl
 effect-number (Clock now) w = refl
 effect-number (Interrupt p i) w = cases (threadOf (w .state) (threadNumber p i) .waiting) (λ e. rw e) (λ e. rw e)
 effect-number (Query p) w = refl
+effect-number (SetPriority p i n) w = refl
 
 pub by-number : (e : Event) (w : World) → answerNumbers (step e w .answer) ≡ numbersOf e w
 by-number e w = step-number e w ∙ effect-number e w
@@ -96,6 +97,7 @@ effect-one (Store p a v) w some = refl
 effect-one (Clock now) w some = refl
 effect-one (Interrupt p i) w some = cases (threadOf (w .state) (threadNumber p i) .waiting) (λ e. rw e) (λ e. rw e)
 effect-one (Query p) w some = clash true refl some
+effect-one (SetPriority p i n) w some = refl
 
 pub answered-once : (e : Event) (w : World) → isQuery e ≡ false → length (answerNumbers (step e w .answer)) ≡ 1
 answered-once e w some = ap length (step-number e w) ∙ refused-one (refusals e w) (answerNumbers (effect e w .answer)) (effect-one e w some)

@@ -14,7 +14,7 @@ use Rattle.rules.specs.declared.event.Command.{Command}
 use Rattle.rules.specs.declared.event.Command.the-variants.{WakeOp}
 use Rattle.rules.specs.declared.event.Call.{Call}
 use Rattle.rules.specs.declared.event.Event.{Event}
-use Rattle.rules.specs.declared.event.Event.the-variants.{Call as CallEvent, Store, Clock, Interrupt, Query}
+use Rattle.rules.specs.declared.event.Event.the-variants.{Call as CallEvent, Store, Clock, Interrupt, Query, SetPriority}
 use Rattle.tables.specs.Tables.{World, threadNumber, processOf, threadOf, endSleeps, moveSleeps, withState}
 use Rattle.rules.specs.Commands.{commandOf, uses}
 use Rattle.rules.specs.Calls.{caller, released, moved, releasedSecond, wait, wake, requeue, wakeOp, callEffect}
@@ -24,7 +24,7 @@ use Rattle.rules.specs.Claims.{Clear}
 use Rattle.rules.proofs.Commands.{by-command}
 use Rattle.rules.proofs.Rows.{step-keeps}
 use Rattle.rules.proofs.Passed.{Passed, clear-passed, thread-index, uaddr2-inside}
-use Rattle.rules.proofs.View.{ownThread, viewState, view, own-thread, other-thread, view-end, view-move, view-sleep-other, view-write-other, end-none, move-none}
+use Rattle.rules.proofs.View.{ownThread, viewState, view, own-thread, other-thread, view-end, view-move, view-sleep-other, view-priority-other, view-write-other, end-none, move-none}
 use Rattle.rules.proofs.Own.{released-own, moved-own, second-own}
 
 module _ (p q : ℕ) (apart : p ≡ q → ⊥) where
@@ -86,6 +86,9 @@ effect-other p q apart (Interrupt r i) is w h =
     (λ e. rw e (same-view p _ w (end-other p r (λ f. apart (f ∙ d)) Interrupted (t ∷ []) (w .state) other)))
     (λ e. rw e)
 effect-other p q apart (Query r) is w h = refl
+effect-other p q apart (SetPriority r i n) is w h =
+    let d : r ≡ q = cc in
+    same-view p _ w (view-priority-other p n (threadNumber r i) (w .state) (other-thread p r i (λ f. apart (f ∙ d)) (thread-index r i (h .1 .1 .0))))
 
 pub step-other : (p q : ℕ) → (p ≡ q → ⊥) → (e : Event) → named e ≡ process q → (w : World) → view p (step e w .world) ≡ view p w
 step-other p q apart e is w = step-keeps (λ v. view p v ≡ view p w) e w refl (effect-other p q apart e is w)

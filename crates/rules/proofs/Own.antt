@@ -15,11 +15,11 @@ use Rattle.rules.specs.declared.event.Command.{Command}
 use Rattle.rules.specs.declared.event.Command.the-variants.{WakeOp}
 use Rattle.rules.specs.declared.event.Call.{Call}
 use Rattle.rules.specs.declared.event.Event.{Event}
-use Rattle.rules.specs.declared.event.Event.the-variants.{Call as CallEvent, Store, Clock, Interrupt, Query}
+use Rattle.rules.specs.declared.event.Event.the-variants.{Call as CallEvent, Store, Clock, Interrupt, Query, SetPriority}
 use Rattle.rules.specs.declared.answer.Answer.the-variants.{Refused, Waiting}
 use Rattle.rules.specs.declared.answer.Refusal.{Refusal}
 use Rattle.tables.specs.Sizes.{threadsPerProcess}
-use Rattle.tables.specs.Tables.{expired, expiredSleepers, World, threadNumber, threadOf, arrivals, wordAt, endSleeps, withClock, withState, tablesOk}
+use Rattle.tables.specs.Tables.{expired, expiredSleepers, World, threadNumber, threadOf, arrivals, wordAt, endSleeps, setPriority, withClock, withState, tablesOk}
 use Rattle.rules.specs.Answers.{Outcome, outcome}
 use Rattle.rules.specs.Commands.{commandOf, uses}
 use Rattle.rules.specs.WakeOp.{newWord}
@@ -31,7 +31,7 @@ use Rattle.rules.proofs.Rows.{Same, _then_, same-behind, same-first, cl
 use Rattle.rules.proofs.Preserved.{Valid}
 use Rattle.rules.proofs.Passed.{Passed, clear-passed, memory-right, sound-right, thread-index, uaddr-inside, uaddr2-inside}
 use Rattle.rules.proofs.Chosen.{candidate, candidate-own, candidates-are, released-pass, moved-pass, second-pass, atFirst, atSecond}
-use Rattle.rules.proofs.View.{ownThread, viewState, view, view-state, view-with-state, own-thread, view-arrivals, view-own, view-clock, view-word, view-end, view-move, view-sleep-own, view-with-clock, view-write-own, view-valid}
+use Rattle.rules.proofs.View.{ownThread, viewState, view, view-state, view-with-state, own-thread, view-arrivals, view-own, view-clock, view-word, view-end, view-move, view-sleep-own, view-with-clock, view-priority-own, view-write-own, view-valid}
 
 abbrev pub viewOut : ℕ → Outcome → Outcome
 viewOut p o = outcome (o .answer) (view p (o .world))
@@ -240,6 +240,14 @@ module _ (w : World) (g : Valid w) where
   pub step-query : (p : ℕ) → viewOut p (step (Query p) w) ≡ step (Query p) (view p w)
   unfolding refusals effect
   step-query p = own-step p (Query p) w tt (λ h. ap (λ v. outcome (Waiting v) (view p w)) (sym (panel-own p w g)))
+
+  pub step-priority : (p i n : ℕ) → viewOut p (step (SetPriority p i n) w) ≡ step (SetPriority p i n) (view p w)
+  unfolding refusals effect
+  step-priority p i n = own-step p (SetPriority p i n) w
+      (same-memory p w g then λ h1. same-tables p w g then λ h2. refl then λ h3. refl then λ h4. tt)
+      (λ h.
+      let t = threadNumber p i in
+      cc (view-with-state p (setPriority n t (w .state)) w, view-priority-own p n t (w .state) (own-thread p i (thread-index p i (h .1 .1 .0))), view-state p w))
 
   pub step-clock : (p now : ℕ) → view p (step (Clock now) w .world) ≡ step (Clock now) (view p w) .world
   unfolding refusals effect clockEffect

@@ -22,15 +22,15 @@ use Rattle.rules.specs.declared.event.Command.{Command}
 use Rattle.rules.specs.declared.event.Command.the-variants.{CmpRequeue}
 use Rattle.rules.specs.declared.event.Call.{Call}
 use Rattle.rules.specs.declared.event.Event.{Event}
-use Rattle.rules.specs.declared.event.Event.the-variants.{Call as CallEvent, Store, Clock, Interrupt, Query}
-use Rattle.rules.specs.declared.answer.Reason.the-variants.{NoReason, FirstCap, SecondCap, MaskZero, UaddrUnaligned, Uaddr2Unaligned, SameAddress, ClockBack}
+use Rattle.rules.specs.declared.event.Event.the-variants.{Call as CallEvent, Store, Clock, Interrupt, Query, SetPriority}
+use Rattle.rules.specs.declared.answer.Reason.the-variants.{NoReason, FirstCap, SecondCap, MaskZero, UaddrUnaligned, Uaddr2Unaligned, SameAddress, ClockBack, PriorityHigh}
 use Rattle.rules.specs.declared.answer.Refusal.{Refusal}
 use Rattle.rules.specs.declared.answer.Panel.{Panel}
 use Rattle.rules.specs.declared.answer.Verdict.the-variants.{Refuse, Pass}
 use Rattle.rules.specs.declared.answer.Answer.{Answer}
 use Rattle.rules.specs.declared.answer.Answer.the-variants.{Asleep, Count, Refused, Waiting}
-use Rattle.tables.specs.Sizes.{processes, threadsPerProcess, threads, noEntry, wordsPerProcess, bytesPerProcess, memoryWords, maxCap, wordBits, wordLimit}
-use Rattle.tables.specs.Tables.{World, world, fresh, expired, threadNumber, processOf, threadOf, arrivals, tablesOk, movedTo, wordAt}
+use Rattle.tables.specs.Sizes.{processes, threadsPerProcess, threads, noEntry, wordsPerProcess, bytesPerProcess, memoryWords, maxCap, maxPriority, wordBits, wordLimit}
+use Rattle.tables.specs.Tables.{World, world, fresh, expired, threadNumber, processOf, threadOf, arrivals, tablesOk, movedTo, withPriority, wordAt}
 use Rattle.rules.specs.Answers.{Row, first, reasonNumber, answerNumbers, reasonOf, lastNumber, Outcome, outcome}
 use Rattle.rules.specs.Commands.{commandOf, numbered, uses}
 use Rattle.rules.specs.Signed.{negative, signed, modulo, eqZ}
@@ -40,10 +40,12 @@ use Rattle.rules.specs.Events.{refusals, effect, step}
 use Rattle.rules.specs.Numbers.{numbersOf}
 use Rattle.rules.specs.Before.{stepWithoutReasons, newWordUnsigned, comparesUnsigned, stepUnsigned, noneNegative, other, minus12, numbersWith12, asWith12, full, judgedWith12, stepWith12}
 use Rattle.rules.specs.History.{start, final, answers, isClock, belongs, keptFor, entriesOf, answersTo}
-use Rattle.rules.specs.Claims.{FirstOf, Clear, Sleeps, Took, Takes, wokenBy, movedBy, woke, shifted, countsMoves, SameSleepers, NamedAlike, before, after, asleepThere, Enters, sleptThrough, Since, Alike}
+use Rattle.rules.specs.Claims.{FirstOf, Clear, Sleeps, Took, Takes, wokenBy, movedBy, woke, shifted, countsMoves, SameSleepers, NamedAlike, before, after, PrioritySet, asleepThere, Enters, sleptThrough, Since, Alike}
 use Rattle.rules.specs.Cases.{wakeOpAt, asleepAtMinusOne, Case, sleepers, endedFrom, given, Reasoned, reasonedAs, Share, mixed, shareOf, Unsound, each, unsoundGiven}
+use Rattle.rules.specs.PriorityCases.{Prioritised, rankedFrom, prioritisedAs}
 use Rattle.rules.specs.WakeOpCases.{Compared, comparedAs, Stored, storedAs, Called, calledAs}
 use Rattle.tables.proofs.Sound.{tables-sound}
+use Rattle.rules.proofs.ByEvent.{no-call}
 use Rattle.rules.proofs.Rows.{first-of, of-first, pass-clear, clear-pass}
 use Rattle.rules.proofs.Preserved.{Valid}
 use Rattle.rules.proofs.Signed as Signed′
@@ -62,8 +64,8 @@ use Rattle.rules.proofs.Histories as Histories
 
 -- "The display's fixed sizes"
 pub sizes : (processes ≡ 8) × (threadsPerProcess ≡ 8) × (threads ≡ 64) × (noEntry ≡ 255) × (wordsPerProcess ≡ 1024) × (bytesPerProcess ≡ 4096)
-    × (memoryWords ≡ 8192) × (maxCap ≡ 2147483647) × (wordBits ≡ 32) × (wordLimit ≡ 4294967296) × (codeBits ≡ 4) × (argBits ≡ 12) × (shiftBit ≡ 8)
-sizes = (refl, refl, refl, refl, refl, refl, refl, refl, refl, refl, refl, refl, refl)
+    × (memoryWords ≡ 8192) × (maxCap ≡ 2147483647) × (maxPriority ≡ 31) × (wordBits ≡ 32) × (wordLimit ≡ 4294967296) × (codeBits ≡ 4) × (argBits ≡ 12) × (shiftBit ≡ 8)
+sizes = (refl, refl, refl, refl, refl, refl, refl, refl, refl, refl, refl, refl, refl, refl)
 
 -- The last answers by number: "The last answer is 1 until a sleep ends, then 0 (woken), -110 or -4."
 pub fresh-last : (words : List ℕ) (t : ℕ) → lastNumber (threadOf (start words .state) t .last) ≡ pos 1
@@ -84,6 +86,25 @@ interrupt-last p i w n h e =
     let t = threadNumber p i in
     ap (λ (r : Thread). lastNumber (r .last)) (Taken.interrupt-ends p i w n h e .ran t (rw (eqb-refl t)))
 
+-- Priorities: "0 at the start"; a record with another priority is the same in all else;
+pub fresh-priority : (words : List ℕ) (t : ℕ) → threadOf (start words .state) t .priority ≡ 0
+unfolding fresh
+fresh-priority words t = ap (λ (r : Thread). r .priority) (getD-replicated threads t _)
+
+pub priority-written : (n : ℕ) (r : Thread)
+    → withPriority n r
+    ≡ record { waiting = r .waiting; uaddr = r .uaddr; bitset = r .bitset; timed = r .timed; deadline = r .deadline; last = r .last; priority = n }
+priority-written n r = refl
+
+-- which event set it, of which thread, to what, and what it was answered.
+pub set-exactly : (e : Event) (w : World) (t : ℕ)
+    → PrioritySet e w t
+    ↔ ((p : ℕ) × (i : ℕ) × (n : ℕ) × (e ≡ SetPriority p i n) × (t ≡ threadNumber p i) × (step e w .answer ≡ Count 0) × (after e w t ≡ withPriority n (before w t)))
+set-exactly e w t = (
+  (λ s. (s .process, s .index, s .priority, s .event, s .thread, s .answer, s .left)),
+  (λ s. record { process = s .0; index = s .1; priority = s .2; event = s .3; thread = s .4; answer = s .5; left = s .6 }),
+)
+
 -- Histories.
 
 -- the fresh tables over the words that are given
@@ -100,14 +121,16 @@ final-last g e w = Histories.final-append g (e ∷ []) w
 pub answers-last : (g : List Event) (e : Event) (w : World) → answers (g ++ e ∷ []) w ≡ answers g w ++ step e (final g w) .answer ∷ []
 answers-last g e w = Histories.answers-append g (e ∷ []) w
 
--- Whose an event is: "A call, store, interrupt or panel query belongs to the process that it names. A clock event belongs to none".
-pub belongs-to : (p q i a v now : ℕ) (c : Call)
+-- Whose an event is: "A call, store, interrupt or panel query belongs to the process that it names. A clock event belongs to none"; a priority
+-- that is set "belongs to the named process".
+pub belongs-to : (p q i a v now n : ℕ) (c : Call)
     → (belongs p (CallEvent c) ≡ eqb (c .process) p)
     × (belongs p (Store q a v) ≡ eqb q p)
     × (belongs p (Interrupt q i) ≡ eqb q p)
     × (belongs p (Query q) ≡ eqb q p)
+    × (belongs p (SetPriority q i n) ≡ eqb q p)
     × (belongs p (Clock now) ≡ false)
-belongs-to p q i a v now c = (refl, refl, refl, refl, refl)
+belongs-to p q i a v now n c = (refl, refl, refl, refl, refl, refl)
 
 -- What a process's events are answered: all of them, in order, and no other's.
 pub answers-in-order : (p : ℕ) (g : List Event) (e : Event) (w : World)
@@ -134,8 +157,8 @@ pub clear-exactly : (rs : List Row) → Clear rs ↔ (first rs ≡ Pass)
 clear-exactly rs = (clear-pass rs, pass-clear rs)
 
 -- Reasons by their numbers, and which commands use the arguments that they speak of, by theirs.
-pub reason-numbers : map reasonNumber (NoReason ∷ FirstCap ∷ SecondCap ∷ MaskZero ∷ UaddrUnaligned ∷ Uaddr2Unaligned ∷ SameAddress ∷ ClockBack ∷ [])
-    ≡ 0 ∷ 1 ∷ 2 ∷ 3 ∷ 4 ∷ 5 ∷ 6 ∷ 7 ∷ []
+pub reason-numbers : map reasonNumber (NoReason ∷ FirstCap ∷ SecondCap ∷ MaskZero ∷ UaddrUnaligned ∷ Uaddr2Unaligned ∷ SameAddress ∷ ClockBack ∷ PriorityHigh ∷ [])
+    ≡ 0 ∷ 1 ∷ 2 ∷ 3 ∷ 4 ∷ 5 ∷ 6 ∷ 7 ∷ 8 ∷ []
 reason-numbers = refl
 
 pub arguments-used : let commands : List ℕ = 0 ∷ 1 ∷ 3 ∷ 4 ∷ 5 ∷ 9 ∷ 10 ∷ [] in
@@ -188,13 +211,10 @@ unfolding undefinedOp modulo
 undefined-parts = (refl, refl)
 
 -- Of which events `as-before-signs` speaks: of all that are no WAKE_OP, and of a WAKE_OP with a power of two whatever its oparg.
-pub none-negative-else : (p a v now i : ℕ) (c : Call) (w : World)
-    → (noneNegative (Store p a v) w ≡ true)
-    × (noneNegative (Clock now) w ≡ true)
-    × (noneNegative (Interrupt p i) w ≡ true)
-    × (noneNegative (Query p) w ≡ true)
-    × (isWakeOp (commandOf (c .op)) ≡ false → noneNegative (CallEvent c) w ≡ true)
-none-negative-else p a v now i c w = (refl, refl, refl, refl, λ e. rw e)
+pub none-negative-else : (w : World)
+    → ((e : Event) → ((c : Call) → e ≡ CallEvent c → ⊥) → noneNegative e w ≡ true)
+    × ((c : Call) → isWakeOp (commandOf (c .op)) ≡ false → noneNegative (CallEvent c) w ≡ true)
+none-negative-else w = ((λ e h. no-call _ _ e h), λ c e. rw e)
 
 pub none-negative-power : (c : Call) (w : World) → isWakeOp (commandOf (c .op)) ≡ true → shiftBit ≤ opField (c .val3)
     → noneNegative (CallEvent c) w ≡ (not (negative argBits (cmpArgField (c .val3))) && not (negative wordBits (oldWord c w)))
@@ -219,9 +239,8 @@ rows-with-12 e w = refl
 pub full-exactly : (c : Call) (w : World) → (full (CallEvent c) w ≡ true) ↔ (64 ≤ w .state .count)
 full-exactly c w = (leb-true 64 (w .state .count), le-leb 64 (w .state .count))
 
-pub none-else-full : (p i a v now : ℕ) (w : World)
-    → (full (Store p a v) w ≡ false) × (full (Clock now) w ≡ false) × (full (Interrupt p i) w ≡ false) × (full (Query p) w ≡ false)
-none-else-full p i a v now w = (refl, refl, refl, refl)
+pub none-else-full : (w : World) (e : Event) → ((c : Call) → e ≡ CallEvent c → ⊥) → full e w ≡ false
+none-else-full w e h = no-call _ _ e h
 
 -- their numbers; and an outcome among them is the whole of it, with the reason.
 pub numbered-12 : (a : Answer) → (numbersWith12 (other a) ≡ answerNumbers a) × (numbersWith12 minus12 ≡ negℤ (pos 12) ∷ [])
@@ -255,9 +274,8 @@ shifted-exactly s u t = (Counts.shifted-is s u t, Counts.is-shifted s u t)
 pub moves-count : (c : Call) → (countsMoves (CallEvent c) ≡ true) ↔ (commandOf (c .op) ≡ CmpRequeue)
 moves-count c = (Counts.moves-count (commandOf (c .op)), λ e. rw e)
 
-pub none-moves : (p i a v now : ℕ)
-    → (countsMoves (Store p a v) ≡ false) × (countsMoves (Clock now) ≡ false) × (countsMoves (Interrupt p i) ≡ false) × (countsMoves (Query p) ≡ false)
-none-moves p i a v now = (refl, refl, refl, refl)
+pub none-moves : (e : Event) → ((c : Call) → e ≡ CallEvent c → ⊥) → countsMoves e ≡ false
+none-moves e h = no-call _ _ e h
 
 -- What a count depends on is the same in the world itself, and after a thread has fallen asleep at a word that the call does not name.
 pub named-same : (k : Command) (c : Call) (w : World) → NamedAlike k c w w
@@ -283,13 +301,15 @@ pub fell-asleep : (e : Event) (w : World) (t : ℕ) → before w t .waiting ≡ 
     → (c : Call) × (e ≡ CallEvent c) × (t ≡ caller c) × Sleeps c w
 fell-asleep e w t off on = Fates.falls-asleep e w t off on (fate e w t)
 
--- who sleeps on was moved by a requeue or has the record that it had; and who runs on has the record that it had.
+-- who sleeps on was moved by a requeue, had its priority set, or has the record that it had; and who runs on had its priority set, or has
+-- the record that it had.
 pub slept-on : (e : Event) (w : World) (t : ℕ) → before w t .waiting ≡ true → after e w t .waiting ≡ true
     → (after e w t ≡ before w t)
     ⊎ ((c : Call) × (e ≡ CallEvent c) × (elem t (movedBy (commandOf (c .op)) c w) ≡ true) × (after e w t ≡ movedTo (c .uaddr2) (before w t)))
+    ⊎ PrioritySet e w t
 slept-on e w t on still = Fates.sleeps-on e w t on still (fate e w t)
 
-pub ran-on : (e : Event) (w : World) (t : ℕ) → before w t .waiting ≡ false → after e w t .waiting ≡ false → after e w t ≡ before w t
+pub ran-on : (e : Event) (w : World) (t : ℕ) → before w t .waiting ≡ false → after e w t .waiting ≡ false → (after e w t ≡ before w t) ⊎ PrioritySet e w t
 ran-on e w t off still = Fates.runs-on e w t off still (fate e w t)
 
 pub records-read : (e : Event) (w : World) (t : ℕ)
@@ -371,6 +391,11 @@ pub case-given : (r : Case) → let w = start (replicate memoryWords 0) in let v
       word = wordAt v 0 8;
     }
 case-given r = refl
+
+pub prioritised-given : (r : Prioritised) → let w = start (replicate memoryWords 0) in
+    prioritisedAs r
+    ≡ record { happens = r .happens; answers = map answerNumbers (answers (r .happens) w); priorities = rankedFrom 0 (final (r .happens) w .state .threads) }
+prioritised-given r = refl
 
 pub share-given : (s : Share) → let w = start (replicate memoryWords 0) in
     shareOf s ≡ record { process = s .process; kept = keptFor (s .process) mixed; answers = map answerNumbers (answersTo (s .process) mixed w) }

@@ -5,15 +5,15 @@ use mathlib.Core.List.{List, [], _∷_}
 use Prim.Native.Nat.{ℕ}
 use lib.ListN.{length, length-set}
 use lib.Dec.{eqb, leb, ltb}
-use borrow.Author.Tests.{leb-false, lt-ltb}
+use borrow.Author.Tests.{leb-false, ltb-false, lt-ltb}
 use Rattle.lists.proofs.Tests.{cases, and-intro}
 use Rattle.tables.specs.declared.LastAnswer.the-variants.{Woken, Interrupted}
 use Rattle.rules.specs.declared.event.Command.{Command}
 use Rattle.rules.specs.declared.event.Command.the-variants.{Wait, Wake, Requeue, CmpRequeue, WakeOp, WaitBitset, WakeBitset, Unknown}
 use Rattle.rules.specs.declared.event.Call.{Call}
 use Rattle.rules.specs.declared.event.Event.{Event}
-use Rattle.rules.specs.declared.event.Event.the-variants.{Call as CallEvent, Store, Clock, Interrupt, Query}
-use Rattle.tables.specs.Sizes.{memoryWords}
+use Rattle.rules.specs.declared.event.Event.the-variants.{Call as CallEvent, Store, Clock, Interrupt, Query, SetPriority}
+use Rattle.tables.specs.Sizes.{memoryWords, maxPriority}
 use Rattle.tables.specs.Tables.{World, threadNumber, threadOf, recordOk, asleepAt, endSleeps, writeWord}
 use Rattle.rules.specs.Commands.{commandOf, uses}
 use Rattle.rules.specs.Calls.{caller, timeoutGiven, deadlineOf, maskOf, released, moved, wait, wake, requeue, wakeOp, callEffect}
@@ -22,8 +22,8 @@ use Rattle.rules.specs.History.{start, final}
 use Rattle.rules.specs.Claims.{Clear}
 use Rattle.rules.proofs.Rows.{step-keeps}
 use Rattle.tables.proofs.Changes.{arrivals-end}
-use Rattle.tables.proofs.Sound.{Sound, fresh-sound}
-use Rattle.tables.proofs.Kept.{below-ok, ending, sound-move, sound-sleep, sound-clock}
+use Rattle.tables.proofs.Sound.{Sound, fresh-sound, priority-kept}
+use Rattle.tables.proofs.Kept.{below-ok, ending, sound-move, sound-sleep, sound-clock, sound-priority}
 use Rattle.rules.proofs.Chosen.{moved-left}
 use Rattle.rules.proofs.Passed.{Passed, clear-passed, caller-below, uaddr-aligned, uaddr2-aligned, mask-given, uaddr-inside, uaddr2-inside}
 
@@ -42,8 +42,9 @@ module _ (k : Command) (c : Call) (w : World) (g : Passed k c w) where
   unfolding recordOk
   sleeper-ok mask time =
       and-intro
-      (and-intro (and-intro (uaddr-aligned k c (g .arguments)) (below-ok (c .uaddr) (uaddr-inside k c (g .addresses)))) (ap not mask))
-      (ahead (timeoutGiven c) time)
+      (and-intro (and-intro (and-intro (uaddr-aligned k c (g .arguments)) (below-ok (c .uaddr) (uaddr-inside k c (g .addresses)))) (ap not mask))
+      (ahead (timeoutGiven c) time))
+      (priority-kept (w .state) (g .sound) (caller c))
     where
       ahead : (b : Bool) → (b && leb (deadlineOf k c (w .state .clock)) (w .state .clock)) ≡ false
           → cond b (ltb (w .state .clock) (cond b (deadlineOf k c (w .state .clock)) 0)) (eqb (cond b (deadlineOf k c (w .state .clock)) 0) 0) ≡ true
@@ -99,6 +100,8 @@ effect-valid (Interrupt p i) w g h = cases (threadOf (w .state) (threadNumber p 
     (λ e. rw e (record { memory = g .memory; sound = ending Interrupted _ (w .state) (g .sound) }))
     (λ e. rw e g)
 effect-valid (Query p) w g h = g
+effect-valid (SetPriority p i n) w g h =
+    record { memory = g .memory; sound = sound-priority n (threadNumber p i) (w .state) (ltb-false maxPriority n (h .1 .1 .1 .0)) (g .sound) }
 
 pub step-valid : (e : Event) (w : World) → Valid w → Valid (step e w .world)
 step-valid e w g = step-keeps Valid e w g (effect-valid e w g)

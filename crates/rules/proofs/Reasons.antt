@@ -12,22 +12,22 @@ use Rattle.lists.specs.Lists.{filter, all}
 use Rattle.lists.proofs.Tests.{cases, clash, and-intro, and-left, and-right, beq-true}
 use Rattle.rules.specs.declared.event.Call.{Call}
 use Rattle.rules.specs.declared.event.Event.{Event}
-use Rattle.rules.specs.declared.event.Event.the-variants.{Call as CallEvent, Store, Clock, Interrupt, Query}
+use Rattle.rules.specs.declared.event.Event.the-variants.{Call as CallEvent, Store, Clock, Interrupt, Query, SetPriority}
 use Rattle.rules.specs.declared.answer.Errno.{Errno}
 use Rattle.rules.specs.declared.answer.Errno.the-variants.{ENXIO, EBADF, ESRCH, EBUSY, ENOSYS, EINVAL, EFAULT, EAGAIN, ETIMEDOUT}
 use Rattle.rules.specs.declared.answer.Reason.{Reason}
-use Rattle.rules.specs.declared.answer.Reason.the-variants.{NoReason, FirstCap, SecondCap, MaskZero, UaddrUnaligned, Uaddr2Unaligned, SameAddress, ClockBack}
+use Rattle.rules.specs.declared.answer.Reason.the-variants.{NoReason, FirstCap, SecondCap, MaskZero, UaddrUnaligned, Uaddr2Unaligned, SameAddress, ClockBack, PriorityHigh}
 use Rattle.rules.specs.declared.answer.Refusal.{Refusal}
 use Rattle.rules.specs.declared.answer.Verdict.the-variants.{Refuse}
 use Rattle.rules.specs.declared.answer.Answer.{Answer}
 use Rattle.rules.specs.declared.answer.Answer.the-variants.{Asleep, Count, Refused, Waiting}
-use Rattle.tables.specs.Sizes.{wordBytes, wordLimit, maxCap}
+use Rattle.tables.specs.Sizes.{wordBytes, wordLimit, maxCap, maxPriority}
 use Rattle.tables.specs.Tables.{World, aligned}
 use Rattle.rules.specs.Answers.{Row, errnoNumber, reasonNumber, reasonOf, answerNumbers, isMinus22, first, reasonAmong, isRefused}
 use Rattle.rules.specs.Commands.{commandOf, uses}
 use Rattle.rules.specs.Calls.{argumentRows, callRows}
 use Rattle.rules.specs.Events.{refusals, effect, step}
-use Rattle.rules.specs.Claims.{Fault, firstCap, secondCap, maskZero, uaddrUnaligned, addressUnaligned, uaddr2Unaligned, sameAddress, clockBack}
+use Rattle.rules.specs.Claims.{Fault, firstCap, secondCap, maskZero, uaddrUnaligned, addressUnaligned, uaddr2Unaligned, sameAddress, clockBack, priorityHigh}
 use Rattle.rules.proofs.Rows.{not-pass, rows-refused, _and_, verdicts, step-refused, step-clear}
 use Rattle.rules.proofs.Refused.{granted, refused-row, refusal-of}
 
@@ -98,6 +98,7 @@ table-fitting (Store p a v) w = refl
 table-fitting (Clock now) w = refl
 table-fitting (Interrupt p i) w = refl
 table-fitting (Query p) w = refl
+table-fitting (SetPriority p i n) w = refl
 
 table-rising : (e : Event) (w : World) → Rising 1 (invalid (refusals e w))
 unfolding refusals callRows argumentRows
@@ -106,6 +107,7 @@ table-rising (Store p a v) w = omega arith and tt
 table-rising (Clock now) w = omega arith and tt
 table-rising (Interrupt p i) w = tt
 table-rising (Query p) w = tt
+table-rising (SetPriority p i n) w = omega arith and tt
 
 -- each of them tests for a fault of the event
 by-both : {P : Type 0} (a b : Bool) → (a ≡ true → b ≡ true → P) → (a && b) ≡ true → P
@@ -125,6 +127,7 @@ each-fault (Store p a v) w = (λ h. addressUnaligned p a v (eqb-false (a % wordB
 each-fault (Clock now) w = (λ h. clockBack now (ltb-true now (w .state .clock) h)) and tt
 each-fault (Interrupt p i) w = tt
 each-fault (Query p) w = tt
+each-fault (SetPriority p i n) w = (λ h. priorityHigh p i n (ltb-true maxPriority n h)) and tt
 
 fault-in : (e : Event) (w : World) (q : Reason) → Fault w q e → (r : Row) × In r (invalid (refusals e w)) × (r .refusal .reason ≡ q) × (r .applies ≡ true)
 unfolding refusals callRows argumentRows
@@ -136,6 +139,7 @@ fault-in _ w _ (uaddr2Unaligned c u n) = (_, behind (behind (behind (behind at))
 fault-in _ w _ (sameAddress c u s) = (_, behind (behind (behind (behind (behind at)))), refl, and-intro u (eq-eqb (c .uaddr) (c .uaddr2) s))
 fault-in _ w _ (addressUnaligned p a v n) = (_, at, refl, ap not (ne-eqb (a % wordBytes) 0 n))
 fault-in _ w _ (clockBack now l) = (_, at, refl, lt-ltb now (w .state .clock) l)
+fault-in _ w _ (priorityHigh p i n l) = (_, at, refl, lt-ltb maxPriority n l)
 
 -- Reasons by number: 0 is no reason, and no two have one number.
 abbrev numbered : ℕ → Reason
@@ -146,7 +150,8 @@ numbered n =
     (cond (eqb n 4) UaddrUnaligned
     (cond (eqb n 5) Uaddr2Unaligned
     (cond (eqb n 6) SameAddress
-    (cond (eqb n 7) ClockBack NoReason))))))
+    (cond (eqb n 7) ClockBack
+    (cond (eqb n 8) PriorityHigh NoReason)))))))
 
 number-back : (r : Reason) → numbered (reasonNumber r) ≡ r
 number-back NoReason = refl
@@ -157,6 +162,7 @@ number-back UaddrUnaligned = refl
 number-back Uaddr2Unaligned = refl
 number-back SameAddress = refl
 number-back ClockBack = refl
+number-back PriorityHigh = refl
 
 same-reason : (q r : Reason) → reasonNumber q ≡ reasonNumber r → q ≡ r
 same-reason q r h = sym (number-back q) ∙ ap numbered h ∙ number-back r
@@ -258,6 +264,11 @@ store-reason p a v w = one-reason (Store p a v) w UaddrUnaligned ((λ h. refl) a
 pub clock-reason : (now : ℕ) (w : World) → refuses22 (step (Clock now) w .answer) ≡ true → reasonOf (step (Clock now) w .answer) ≡ ClockBack
 unfolding refusals
 clock-reason now w = one-reason (Clock now) w ClockBack ((λ h. refl) and tt)
+
+pub priority-reason : (p i n : ℕ) (w : World) → refuses22 (step (SetPriority p i n) w .answer) ≡ true
+    → reasonOf (step (SetPriority p i n) w .answer) ≡ PriorityHigh
+unfolding refusals
+priority-reason p i n w = one-reason (SetPriority p i n) w PriorityHigh ((λ h. refl) and tt)
 
 pub interrupt-reason : (p i : ℕ) (w : World) → reasonOf (step (Interrupt p i) w .answer) ≡ NoReason
 unfolding refusals

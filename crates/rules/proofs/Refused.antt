@@ -10,7 +10,7 @@ use Rattle.lists.proofs.Tests.{cases, clash, by-cases}
 use Rattle.rules.specs.declared.event.Command.{Command}
 use Rattle.rules.specs.declared.event.Call.{Call}
 use Rattle.rules.specs.declared.event.Event.{Event}
-use Rattle.rules.specs.declared.event.Event.the-variants.{Call as CallEvent, Store, Clock, Interrupt, Query}
+use Rattle.rules.specs.declared.event.Event.the-variants.{Call as CallEvent, Store, Clock, Interrupt, Query, SetPriority}
 use Rattle.rules.specs.declared.answer.Refusal.{Refusal}
 use Rattle.rules.specs.declared.answer.Verdict.the-variants.{Refuse}
 use Rattle.rules.specs.declared.answer.Answer.{Answer}
@@ -43,6 +43,7 @@ granted (Store p a v) w h = refl
 granted (Clock now) w h = refl
 granted (Interrupt p i) w h = cases (threadOf (w .state) (threadNumber p i) .waiting) (λ e. rw e) (λ e. rw e)
 granted (Query p) w h = refl
+granted (SetPriority p i n) w h = refl
 
 pub refused-row : (e : Event) (w : World) (x : Refusal) → step e w .answer ≡ Refused x → first (refusals e w) ≡ Refuse x
 refused-row e w x h = verdicts e w

@@ -1,6 +1,6 @@
 -- Demand 2, wakes and requeues: whom they take, what they leave, and what their count counts.
 use mathlib.Core.Path.{_≡_, refl, sym, ap, _∙_}
-use mathlib.Core.Bool.{true, false, cond, _&&_}
+use mathlib.Core.Bool.{true, false, not, cond, _&&_}
 use mathlib.Core.List.{List, [], _∷_, _++_, append-nil}
 use Prim.Native.Nat.{ℕ, _+_, _≤_}
 use native.Mathlib.Omega.{arith}
@@ -9,24 +9,27 @@ use lib.Dec.{eqb, leb}
 use borrow.Author.Tests.{eqb-true}
 use Rattle.lists.specs.Lists.{elem, bit, countBelow}
 use Rattle.lists.proofs.Tests.{cases, clash, never, and-left}
+use Rattle.lists.proofs.Count.{countBelow-ext}
 use Rattle.lists.proofs.Occurs.{occurs, elem-occurs, absent-occurs, occurs-absent, occurs-append, occurs-without, occurs-taken-out, occurs-filter-le, elem-all, elem-filter}
 use Rattle.tables.specs.declared.State.{State}
+use Rattle.tables.specs.declared.Thread.{Thread}
 use Rattle.tables.specs.declared.LastAnswer.{LastAnswer}
 use Rattle.tables.specs.declared.LastAnswer.the-variants.{Woken, TimedOut, Interrupted}
 use Rattle.rules.specs.declared.event.Command.{Command}
 use Rattle.rules.specs.declared.event.Command.the-variants.{Wait, Wake, Requeue, CmpRequeue, WakeOp, WaitBitset, WakeBitset, Unknown}
 use Rattle.rules.specs.declared.event.Call.{Call}
 use Rattle.rules.specs.declared.event.Event.{Event}
-use Rattle.rules.specs.declared.event.Event.the-variants.{Call as CallEvent, Store, Clock, Interrupt, Query}
+use Rattle.rules.specs.declared.event.Event.the-variants.{Call as CallEvent, Store, Clock, Interrupt, Query, SetPriority}
 use Rattle.rules.specs.declared.answer.Answer.the-variants.{Count}
 use Rattle.tables.specs.Sizes.{threads}
-use Rattle.tables.specs.Tables.{expired, expiredSleepers, World, threadNumber, threadOf, arrivals, endSleeps, moveSleeps, writeWord, withClock}
+use Rattle.tables.specs.Tables.{expired, expiredSleepers, World, threadNumber, threadOf, arrivals, freshThread, withPriority, endSleeps, moveSleeps, setPriority, writeWord, withClock}
 use Rattle.rules.specs.Answers.{Outcome}
 use Rattle.rules.specs.Commands.{commandOf, uses}
 use Rattle.rules.specs.Calls.{matches, released, moved, releasedSecond, wait, wake, requeue, wakeOp, callEffect}
 use Rattle.rules.specs.Events.{refusals, effect, step, clockEffect, interruptEffect}
 use Rattle.rules.specs.Claims.{Clear, Took, Takes, woke, shifted, wokenCount, shiftedCount, countsMoves}
 use Rattle.rules.proofs.Rows.{counted-clear, counted-done}
+use Rattle.tables.proofs.Changes.{change-kept}
 use Rattle.tables.proofs.Sound.{Sound, once, listed-waiting, part-below}
 use Rattle.rules.proofs.Passed.{Passed, clear-passed, sound-of, addresses-apart}
 use Rattle.rules.proofs.Chosen.{candidate-at, moved-pass, atFirst, parts-listed, second-listed}
@@ -181,6 +184,11 @@ call-counted Unknown c w n g h = never (cc)
 nothing-woken : (w : World) → Sound (w .state) → 0 ≡ wokenCount w w
 nothing-woken w g = ends-counted Woken [] 0 (w .state) (w .state) g (took-none Woken 0 (w .state)) (λ t. omega arith)
 
+-- a priority that is set wakes nobody
+still-waiting : (n t : ℕ) (s : State) (u : ℕ) → threadOf (setPriority n t s) u .waiting ≡ threadOf s u .waiting
+unfolding setPriority
+still-waiting n t s u = change-kept (λ (r : Thread). r .waiting) (withPriority n) (λ r. refl) (t ∷ []) (s .threads) u freshThread
+
 effect-counted : (e : Event) (w : World) (n : ℕ) → Clear (refusals e w) → effect e w .answer ≡ Count n
     → n ≡ wokenCount w (effect e w .world) + cond (countsMoves e) (shiftedCount w (effect e w .world)) 0
 unfolding effect refusals clockEffect interruptEffect writeWord
@@ -197,6 +205,9 @@ effect-counted (Interrupt p i) w n r h = cases (threadOf (w .state) (threadNumbe
     rw e (omega (arith, ends-counted Interrupted (threadNumber p i ∷ []) 0 (w .state) _ g (took-interrupted (threadNumber p i) (w .state) g e) (one-listed (threadNumber p i) (w .state) g e))))
     (λ e. let m : n ≡ 0 = cc in rw e (omega (arith, nothing-woken w (sound-of w (r .1 .0)))))
 effect-counted (Query p) w n r h = never (cc)
+effect-counted (SetPriority p i k) w n r h =
+    let m : n ≡ 0 = cc in
+    omega (arith, nothing-woken w (sound-of w (r .1 .0)), countBelow-ext threads _ _ (λ t l. ap (λ b. threadOf (w .state) t .waiting && not b) (sym (still-waiting k (threadNumber p i) (w .state) t))))
 
 -- "it is the number of records that went from waiting to running, and, where moves count, of those still waiting whose address changed"
 pub counted : (e : Event) (w : World) (n : ℕ) → step e w .answer ≡ Count n

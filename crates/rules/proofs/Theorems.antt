@@ -17,13 +17,13 @@ use Rattle.rules.specs.declared.event.Command.{Command}
 use Rattle.rules.specs.declared.event.Command.the-variants.{Wake}
 use Rattle.rules.specs.declared.event.Call.{Call}
 use Rattle.rules.specs.declared.event.Event.{Event}
-use Rattle.rules.specs.declared.event.Event.the-variants.{Call as CallEvent, Clock, Interrupt}
+use Rattle.rules.specs.declared.event.Event.the-variants.{Call as CallEvent, Clock, Interrupt, SetPriority}
 use Rattle.rules.specs.declared.answer.Reason.{Reason}
 use Rattle.rules.specs.declared.answer.Reason.the-variants.{NoReason}
 use Rattle.rules.specs.declared.answer.Refusal.{Refusal}
 use Rattle.rules.specs.declared.answer.Answer.the-variants.{Asleep, Count, Refused}
-use Rattle.tables.specs.Sizes.{processes, threadsPerProcess, threads, bytesPerProcess, memoryWords, wordBits, wordLimit}
-use Rattle.tables.specs.Tables.{World, threadNumber, processOf, wordAt, ended, threadOf, arrivals, sleepsAt, queue, expired, expiredSleepers, tablesOk, withState, fallAsleep}
+use Rattle.tables.specs.Sizes.{processes, threadsPerProcess, threads, bytesPerProcess, memoryWords, maxPriority, wordBits, wordLimit}
+use Rattle.tables.specs.Tables.{World, threadNumber, processOf, wordAt, ended, threadOf, arrivals, sleepsAt, queue, expired, expiredSleepers, tablesOk, withState, fallAsleep, setPriority}
 use Rattle.rules.specs.Answers.{asleepNumber, reasonNumber, answerNumbers, reasonOf, outcome}
 use Rattle.rules.specs.Commands.{commandOf}
 use Rattle.rules.specs.Signed.{signed, Within, modulo, eqZ}
@@ -32,11 +32,12 @@ use Rattle.rules.specs.Calls.{caller, secondCap, matches, candidates, re
 use Rattle.rules.specs.Events.{refusals, effect, step}
 use Rattle.rules.specs.Numbers.{numbersOf}
 use Rattle.rules.specs.Before.{stepWithoutReasons, withoutReason, stepUnsigned, noneNegative, numbersWith12, asWith12, stepWith12}
-use Rattle.rules.specs.History.{start, final, keptFor, answersTo}
-use Rattle.rules.specs.Claims.{FirstOf, Clear, Fault, Sleeps, sleepsBy, Took, Takes, wokenCount, shiftedCount, countsMoves, NamedAlike, Fate, asleepThere, sleptThrough, Since, Alike}
+use Rattle.rules.specs.History.{start, final, answers, keptFor, answersTo}
+use Rattle.rules.specs.Claims.{FirstOf, Clear, Fault, Sleeps, sleepsBy, Took, Takes, wokenCount, shiftedCount, countsMoves, NamedAlike, before, after, PrioritySet, Fate, priorityAfter, asleepThere, sleptThrough, Since, Alike}
 use Rattle.rules.proofs.Rows.{first-of, of-first, verdicts, step-refused, step-clear}
 use Rattle.rules.specs.Cases.{twelve, further, given, reasoned, reasonedAs, shares, shareOf, unsounds, unsoundGiven}
 use Rattle.rules.specs.WakeOpCases.{comparisons, comparedAs, operations, storedAs, calls, calledAs}
+use Rattle.rules.specs.PriorityCases.{prioritised, prioritisedAs}
 use Rattle.rules.proofs.Cases as Cases
 use Rattle.tables.proofs.Sound.{tables-sound, sound-tables, room, none-overdue}
 use Rattle.rules.proofs.Refused.{refused-row}
@@ -53,6 +54,7 @@ use Rattle.rules.proofs.Counts as Counts
 use Rattle.rules.proofs.Local as Local
 use Rattle.rules.proofs.Fate as Fate′
 use Rattle.rules.proofs.LostWake as LostWake
+use Rattle.rules.proofs.Priorities as Priorities
 use Rattle.rules.proofs.Isolation.{answers-view, final-view, start-alike, alike}
 
 -- Demand 1, for every event, any tables and words of any length.
@@ -299,6 +301,29 @@ no-lost-wake c w n wake answer enough h t own asleep =
     (LostWake.wake-empties c w n wake answer enough t own))
     (λ s. s)
 
+-- Request (vi), base priorities.
+
+-- Nothing changes a thread's priority, whatever the event, the tables and the words, but an event that sets it and is answered 0; and that
+-- changes nothing else of the record.
+pub only-set-priority : (e : Event) (w : World) (t : ℕ) → (after e w t .priority ≡ before w t .priority) ⊎ PrioritySet e w t
+only-set-priority = Priorities.only-set
+
+-- So after any history it is the last that was set for the thread by an event that was not refused, and else what it was.
+pub priority-after : (h : List Event) (w : World) (t : ℕ)
+    → threadOf (final h w .state) t .priority ≡ priorityAfter h (answers h w) t (threadOf (w .state) t .priority)
+priority-after = Priorities.priority-after
+
+-- "Answers in order: -6, -9, -3, -22 if above 31 (reason 8), else 0. It is allowed for a sleeper": it is answered 0 exactly when memory and tables are
+-- sound, the thread is there and the priority is no higher than 31,
+pub set-exactly : (p i n : ℕ) (w : World) → (step (SetPriority p i n) w .answer ≡ Count 0)
+    ↔ ((length (w .words) ≡ memoryWords) × (tablesOk (w .state) ≡ true) × (p < processes) × (i < threadsPerProcess) × (n ≤ maxPriority))
+set-exactly = Priorities.set-exactly
+
+-- and then leaves the thread's record with that priority, and nothing else changed.
+pub set-leaves : (p i n : ℕ) (w : World) → step (SetPriority p i n) w .answer ≡ Count 0
+    → step (SetPriority p i n) w .world ≡ withState (setPriority n (threadNumber p i) (w .state)) w
+set-leaves = Priorities.set-leaves
+
 -- The twelve cases of document 01, P1 to P12, come out as it says, P8 as request (ii) amends it.
 pub twelve-cases : map given twelve ≡ twelve
 twelve-cases = Cases.as-document-01-says
@@ -320,6 +345,10 @@ operations-of-cases = Cases.stored-given
 
 pub calls-of-cases : map calledAs calls ≡ calls
 calls-of-cases = Cases.called-given
+
+-- priorities that are set, refused, and kept through every end of a sleep,
+pub priorities-of-cases : map prioritisedAs prioritised ≡ prioritised
+priorities-of-cases = Cases.prioritised-given
 
 -- what each process is answered and what is kept for it of one history of several,
 pub mixed-history : map shareOf shares ≡ shares

@@ -1,5 +1,5 @@
 -- What a process sees: the world with all that is other processes' taken out. Each change on the view is the view of the change.
-use mathlib.Core.Path.{_≡_, refl, _∙_}
+use mathlib.Core.Path.{_≡_, refl, ap, _∙_}
 use mathlib.Core.Bool.{Bool, true, false, cond}
 use mathlib.Core.List.{List, [], _∷_, _++_, append-nil}
 use Prim.Native.Nat.{ℕ, _/_, _<_}
@@ -16,7 +16,7 @@ use Rattle.tables.specs.declared.State.{State}
 use Rattle.tables.specs.declared.Thread.{Thread}
 use Rattle.tables.specs.declared.LastAnswer.{LastAnswer}
 use Rattle.tables.specs.Sizes.{threadsPerProcess, wordsPerProcess, bytesPerProcess}
-use Rattle.tables.specs.Tables.{outside, World, threadNumber, processOf, wordNumber, wordAt, freshThread, threadOf, arrivals, change, ended, movedTo, withArrivals, withThreads, withClock, endSleeps, moveSleeps, fallAsleep, writeWord, withState}
+use Rattle.tables.specs.Tables.{outside, World, threadNumber, processOf, wordNumber, wordAt, freshThread, threadOf, arrivals, change, ended, movedTo, withArrivals, withThreads, withClock, withPriority, endSleeps, moveSleeps, fallAsleep, setPriority, writeWord, withState}
 use Rattle.tables.proofs.Changes.{arrivals-with, change-none}
 use Rattle.tables.proofs.Sound.{Sound, fresh-ok, sound-with}
 use Rattle.tables.proofs.Flags.{process-own}
@@ -149,6 +149,18 @@ module _ (p : ℕ) where
   view-sleep-other f t s e =
       view-sleep f t s
       ∙ cc (append-nil (filter (ownThread p) (arrivals s)), change-none f (onlyOwn (ownThread p) freshThread (s .threads)))
+
+  view-priority : (n t : ℕ) (s : State)
+      → viewState p (setPriority n t s) ≡ withThreads (change (withPriority n) (filter (ownThread p) (t ∷ [])) (viewState p s .threads)) (viewState p s)
+  unfolding viewState setPriority
+  view-priority n t s = cc (change-view (withPriority n) (t ∷ []) (s .threads))
+
+  pub view-priority-own : (n t : ℕ) (s : State) → ownThread p t ≡ true → viewState p (setPriority n t s) ≡ setPriority n t (viewState p s)
+  unfolding setPriority
+  view-priority-own n t s e = (unfold setPriority in view-priority n t s) ∙ rw e
+
+  pub view-priority-other : (n t : ℕ) (s : State) → ownThread p t ≡ false → viewState p (setPriority n t s) ≡ viewState p s
+  view-priority-other n t s e = view-priority n t s ∙ rw e (ap (λ rs. withThreads rs (viewState p s)) (change-none (withPriority n) (viewState p s .threads)))
 
   pub view-with-clock : (now : ℕ) (s : State) → viewState p (withClock now s) ≡ withClock now (viewState p s)
   unfolding viewState

@@ -9,7 +9,7 @@ use Rattle.tables.specs.declared.LastAnswer.the-variants.{NoneYet, Woken, Timed
 use Rattle.rules.specs.declared.answer.Errno.{Errno}
 use Rattle.rules.specs.declared.answer.Errno.the-variants.{ENXIO, EBADF, ESRCH, EBUSY, ENOSYS, EINVAL, EFAULT, EAGAIN, ETIMEDOUT}
 use Rattle.rules.specs.declared.answer.Reason.{Reason}
-use Rattle.rules.specs.declared.answer.Reason.the-variants.{NoReason, FirstCap, SecondCap, MaskZero, UaddrUnaligned, Uaddr2Unaligned, SameAddress, ClockBack}
+use Rattle.rules.specs.declared.answer.Reason.the-variants.{NoReason, FirstCap, SecondCap, MaskZero, UaddrUnaligned, Uaddr2Unaligned, SameAddress, ClockBack, PriorityHigh}
 use Rattle.rules.specs.declared.answer.Refusal.{Refusal}
 use Rattle.rules.specs.declared.answer.Verdict.{Verdict}
 use Rattle.rules.specs.declared.answer.Verdict.the-variants.{Refuse, Pass}
@@ -31,7 +31,7 @@ errnoNumber EAGAIN = 11
 errnoNumber ETIMEDOUT = 110
 
 -- "1 first cap, 2 second cap, 3 mask zero, 4 uaddr not aligned (also a store's address), 5 uaddr2 not aligned, 6 same address twice,
--- 7 clock went back; 0 with every other answer"
+-- 7 clock went back; 0 with every other answer"; "-22 if above 31 (reason 8)"
 abbrev pub reasonNumber : Reason → ℕ
 reasonNumber NoReason = 0
 reasonNumber FirstCap = 1
@@ -41,6 +41,7 @@ reasonNumber UaddrUnaligned = 4
 reasonNumber Uaddr2Unaligned = 5
 reasonNumber SameAddress = 6
 reasonNumber ClockBack = 7
+reasonNumber PriorityHigh = 8
 
 -- To a host, "asleep" is this number.
 abbrev pub asleepNumber : ℕ

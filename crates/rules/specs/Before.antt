@@ -1,35 +1,34 @@
 -- The rules before each request that changed them: those that hold now, with the one thing that the request changed as it was. They stand here
 -- for the comparisons with the rules that hold now (proofs/Theorems.antt), and nothing else uses them.
 use mathlib.Core.Bool.{Bool, true, false, not, cond, _&&_, _||_}
-use mathlib.Core.List.{List, [], _∷_, _++_}
+use mathlib.Core.List.{List, [], _∷_, _++_, map}
 use Prim.Native.Nat.{ℕ, _%_, _^_}
 use lib.Dec.{eqb, leb, ltb}
 use lib.IntN.{ℤ, pos, negℤ}
 use Rattle.rules.specs.declared.event.Command.{Command}
 use Rattle.rules.specs.declared.event.Call.{Call}
 use Rattle.rules.specs.declared.event.Event.{Event}
-use Rattle.rules.specs.declared.event.Event.the-variants.{Call as CallEvent, Store, Clock, Interrupt, Query}
-use Rattle.rules.specs.declared.answer.Errno.the-variants.{ESRCH, EINVAL, EFAULT}
+use Rattle.rules.specs.declared.answer.Errno.the-variants.{EINVAL}
 use Rattle.rules.specs.declared.answer.Answer.{Answer}
 use Rattle.rules.specs.declared.answer.Answer.the-variants.{Asleep, Count, Refused, Waiting}
 use Rattle.tables.specs.Sizes.{threads, wordBits}
-use Rattle.tables.specs.Tables.{World, threadOf, wordAt, aligned, outside}
+use Rattle.tables.specs.Tables.{World, threadOf, wordAt}
 use Rattle.rules.specs.Answers.{answerNumbers, Row, plain, _when_, byRows, first, Outcome, outcome, judged}
 use Rattle.rules.specs.Commands.{commandOf}
 use Rattle.rules.specs.Signed.{negative}
 use Rattle.rules.specs.WakeOp.{argBits, cmpField, opArgField, cmpArgField, isPower, opCode, operate, compareBy}
-use Rattle.rules.specs.Calls.{firstRows, noProcess, noThread, caller, badArgument, isWakeOp, tableWith, oldWord, secondBy, wakeOpBy}
-use Rattle.rules.specs.Events.{isQuery, refusals, effect}
+use Rattle.rules.specs.Calls.{firstRows, caller, badArgument, isWakeOp, tableWith, oldWord, secondBy, wakeOpBy}
+use Rattle.rules.specs.Events.{ownRows, isQuery, ofCall, refusals, effect}
 
 -- Before request (i): document 01's one row for -22, and no reason beside any error.
 
+abbrev pub rowWithoutReason : Row → Row
+rowWithoutReason r = r .refusal .errno when r .applies
+
 abbrev pub ownRowsWithoutReasons : Event → World → List Row
-ownRowsWithoutReasons (CallEvent c) w =
-    tableWith (EINVAL when badArgument (commandOf (c .op)) c ∷ []) c (threadOf (w .state) (caller c) .waiting) (w .state .clock) (wordAt w (c .process) (c .uaddr))
-ownRowsWithoutReasons (Store p a v) w = ESRCH when noProcess p ∷ EINVAL when not (aligned a) ∷ EFAULT when outside a ∷ []
-ownRowsWithoutReasons (Clock now) w = EINVAL when ltb now (w .state .clock) ∷ []
-ownRowsWithoutReasons (Interrupt p i) w = ESRCH when noThread p i ∷ []
-ownRowsWithoutReasons (Query p) w = []
+ownRowsWithoutReasons e w = ofCall
+    (λ c. tableWith (EINVAL when badArgument (commandOf (c .op)) c ∷ []) c (threadOf (w .state) (caller c) .waiting) (w .state .clock) (wordAt w (c .process) (c .uaddr)))
+    (map rowWithoutReason (ownRows e w)) e
 
 unfoldable pub refusalsWithoutReasons : Event → World → List Row
 refusalsWithoutReasons e w = cond (isQuery e) [] (firstRows w ++ ownRowsWithoutReasons e w)
@@ -59,11 +58,7 @@ abbrev pub wakeOpUnsigned : Command → Call → World → Outcome
 wakeOpUnsigned k c w = wakeOpBy (newWordUnsigned (c .val3) (oldWord c w)) (secondBy comparesUnsigned k c w) k c w
 
 abbrev pub effectUnsigned : Event → World → Outcome
-effectUnsigned (CallEvent c) w = let k = commandOf (c .op) in cond (isWakeOp k) (wakeOpUnsigned k c w) (effect (CallEvent c) w)
-effectUnsigned (Store p a v) w = effect (Store p a v) w
-effectUnsigned (Clock now) w = effect (Clock now) w
-effectUnsigned (Interrupt p i) w = effect (Interrupt p i) w
-effectUnsigned (Query p) w = effect (Query p) w
+effectUnsigned e w = ofCall (λ c. let k = commandOf (c .op) in cond (isWakeOp k) (wakeOpUnsigned k c w) (effect e w)) (effect e w) e
 
 unfoldable pub stepUnsigned : Event → World → Outcome
 stepUnsigned e w = judged (first (refusals e w)) (effectUnsigned e w) w
@@ -71,15 +66,13 @@ stepUnsigned e w = judged (first (refusals e w)) (effectUnsigned e w) w
 -- an event that is no WAKE_OP, or one none of whose numbers is negative now: oparg and cmparg are below 2048 and the old word below 2^31; "The
 -- power-of-two operand is still 2 to the power (oparg mod 32)", whatever oparg
 abbrev pub noneNegative : Event → World → Bool
-noneNegative (CallEvent c) w =
+noneNegative e w = ofCall
+    (λ c.
     not (isWakeOp (commandOf (c .op)))
     || (isPower (c .val3) || not (negative argBits (opArgField (c .val3))))
     && not (negative argBits (cmpArgField (c .val3)))
-    && not (negative wordBits (oldWord c w))
-noneNegative (Store p a v) w = true
-noneNegative (Clock now) w = true
-noneNegative (Interrupt p i) w = true
-noneNegative (Query p) w = true
+    && not (negative wordBits (oldWord c w)))
+    true e
 
 -- Before request (iii): a call had one more row, the last of document 01's table, answered -12. No refusal has that error now, so what was answered
 -- then is an answer that there still is, or -12.
@@ -102,11 +95,7 @@ asWith12 o = record { answer = other (o .answer); world = o .world }
 
 -- "the arrival list already holds 64", asked of calls alone
 abbrev pub full : Event → World → Bool
-full (CallEvent c) w = leb threads (w .state .count)
-full (Store p a v) w = false
-full (Clock now) w = false
-full (Interrupt p i) w = false
-full (Query p) w = false
+full e w = ofCall (λ c. leb threads (w .state .count)) false e
 
 -- A table of answers with the row for -12 below its rows: the first that applies answers, and "leaves words, records, list and clock unchanged".
 unfoldable pub judgedWith12 : List Row → Bool → Outcome → World → OutcomeWith12

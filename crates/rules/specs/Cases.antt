@@ -10,9 +10,9 @@ use Rattle.tables.specs.declared.Thread.{Thread}
 use Rattle.tables.specs.declared.LastAnswer.{LastAnswer}
 use Rattle.tables.specs.declared.LastAnswer.the-variants.{NoneYet, Woken, TimedOut, Interrupted}
 use Rattle.rules.specs.declared.event.Event.{Event}
-use Rattle.rules.specs.declared.event.Event.the-variants.{Call, Store, Clock, Interrupt, Query}
+use Rattle.rules.specs.declared.event.Event.the-variants.{Call, Store, Clock, Interrupt, Query, SetPriority}
 use Rattle.tables.specs.Sizes.{memoryWords, threads, threadsPerProcess, matchAny, noEntry}
-use Rattle.tables.specs.Tables.{World, world, freshThread, threadOf, arrivals, wordAt}
+use Rattle.tables.specs.Tables.{World, world, freshThread, withPriority, threadOf, arrivals, wordAt}
 use Rattle.rules.specs.Answers.{reasonNumber, answerNumbers, reasonOf, lastNumber}
 use Rattle.rules.specs.Events.{step}
 use Rattle.rules.specs.History.{start, final, answers, answersTo, keptFor}
@@ -21,7 +21,7 @@ use Rattle.rules.specs.History.{start, final, answers, answersTo, keptFo
 abbrev pub address : ℕ
 address = 8
 
-abbrev other : ℕ
+abbrev pub other : ℕ
 other = 12
 
 -- the thread that wakes and requeues
@@ -36,16 +36,16 @@ abbrev callBy : ℕ → ℕ → ℕ → ℕ → ℕ → ℕ → ℕ → ℕ → 
 callBy i op a v flag timeout a2 v3 = callOf 0 i op a v flag timeout a2 v3
 
 -- thread i waits at a for v
-abbrev waitFor : ℕ → ℕ → ℕ → Event
+abbrev pub waitFor : ℕ → ℕ → ℕ → Event
 waitFor i a v = callBy i 0 a v 0 0 0 0
 
-abbrev waitUntil : ℕ → ℕ → ℕ → Event
+abbrev pub waitUntil : ℕ → ℕ → ℕ → Event
 waitUntil i v timeout = callBy i 0 address v 1 timeout 0 0
 
 abbrev waitMask : ℕ → ℕ → Event
 waitMask i m = callBy i 9 address 0 0 0 0 m
 
-abbrev byWaker : ℕ → ℕ → ℕ → ℕ → ℕ → ℕ → Event
+abbrev pub byWaker : ℕ → ℕ → ℕ → ℕ → ℕ → ℕ → Event
 byWaker op a v cap2 a2 v3 = callBy waker op a v 0 cap2 a2 v3
 
 -- a WAKE_OP that releases nobody at another word and, if its comparison holds, one here
@@ -89,13 +89,13 @@ masked t m = record { number = t; uaddr = address; bitset = m; timed = false; de
 abbrev until : ℕ → ℕ → ℕ → Sleeper
 until t a due = record { number = t; uaddr = a; bitset = matchAny; timed = true; deadline = due }
 
-abbrev asleep : List ℤ
+abbrev pub asleep : List ℤ
 asleep = pos 2147483647 ∷ []
 
-abbrev number : ℕ → List ℤ
+abbrev pub number : ℕ → List ℤ
 number n = pos n ∷ []
 
-abbrev minus : ℕ → List ℤ
+abbrev pub minus : ℕ → List ℤ
 minus n = negℤ (pos n) ∷ []
 
 abbrev endedSleep : ℕ → ℤ → EndedSleep
@@ -159,11 +159,13 @@ further =
     -- a panel query: threads 1 and 3 asleep; nobody; a process above 7
     ∷ line (waitFor 3 address 0 ∷ waitFor 1 address 0 ∷ Query 0 ∷ Query 1 ∷ Query 8 ∷ []) (asleep ∷ asleep ∷ three 10 2 1 ∷ three 0 0 8 ∷ three 0 0 8 ∷ []) (at 3 address ∷ at 1 address ∷ []) [] 0
     -- a process or index above 7: -3, by each event that names one
-    ∷ line (callOf 8 0 1 address 1 0 0 0 0 ∷ callOf 0 8 1 address 1 0 0 0 0 ∷ Store 8 address 1 ∷ Interrupt 8 0 ∷ Interrupt 0 8 ∷ []) (minus 3 ∷ minus 3 ∷ minus 3 ∷ minus 3 ∷ minus 3 ∷ []) [] [] 0
+    ∷ line (callOf 8 0 1 address 1 0 0 0 0 ∷ callOf 0 8 1 address 1 0 0 0 0 ∷ Store 8 address 1 ∷ Interrupt 8 0 ∷ Interrupt 0 8 ∷ SetPriority 8 0 1 ∷ SetPriority 0 8 1 ∷ []) (minus 3 ∷ minus 3 ∷ minus 3 ∷ minus 3 ∷ minus 3 ∷ minus 3 ∷ minus 3 ∷ []) [] [] 0
     -- a call of a thread that waits: -16
     ∷ line (waitFor 0 address 0 ∷ callBy 0 1 address 1 0 0 0 0 ∷ []) (asleep ∷ minus 16 ∷ []) (at 0 address ∷ []) [] 0
     -- a store: not aligned -22, outside -14
     ∷ line (Store 0 9 1 ∷ Store 0 4096 1 ∷ Store 0 4097 1 ∷ Store 0 address 7 ∷ []) (minus 22 ∷ minus 14 ∷ minus 22 ∷ number 0 ∷ []) [] [] 7
+    -- priorities change nothing of whom a wake takes: the first in the list
+    ∷ line (waitFor 0 address 0 ∷ waitFor 1 address 0 ∷ SetPriority 0 1 31 ∷ byWaker 1 address 1 0 0 0 ∷ []) (asleep ∷ asleep ∷ number 0 ∷ number 1 ∷ []) (at 1 address ∷ []) (woken 0 ∷ []) 0
     -- WAKE_OP with an undefined operation or comparison: -38, and the word stays
     ∷ line (wakeOpAt 0x50000000 ∷ wakeOpAt 0x06000000 ∷ []) (minus 38 ∷ minus 38 ∷ []) [] [] 0
     ∷ []
@@ -202,6 +204,7 @@ reasoned =
     ∷ excused (cmpRequeue address 1 1 13) (minus 22) 5
     ∷ excused (cmpRequeue address 1 1 address) (minus 22) 6
     ∷ excused (Clock 4) (minus 22) 7
+    ∷ excused (SetPriority 0 0 32) (minus 22) 8
     -- 1 with 2, 3, 4, 5, 6; 2 with 4, 5, 6; 3 with 4; 4 with 5, 6
     ∷ excused (cmpRequeue address big big other) (minus 22) 1
     ∷ excused (wakeMask address big 0) (minus 22) 1
@@ -226,6 +229,8 @@ reasoned =
     ∷ excused (Clock 5) (number 0) 0
     ∷ excused (Interrupt 0 8) (minus 3) 0
     ∷ excused (Query 8) (three 0 0 8) 0
+    ∷ excused (SetPriority 0 0 31) (number 0) 0
+    ∷ excused (SetPriority 0 8 32) (minus 3) 0
     ∷ []
 
 -- what the rules give
@@ -258,7 +263,7 @@ given r =
     let v = final (r .happens) w in
     line (r .happens) (told (r .happens) w) (sleepers (v .state)) (endedFrom 0 (v .state .threads)) (wordAt v 0 address)
 
--- One history with events of processes 0, 1 and 9, of the clock, interrupts and panel queries.
+-- One history with events of processes 0, 1 and 9, of the clock, interrupts, panel queries and a priority.
 abbrev sleep0 : Event
 sleep0 = callOf 0 1 0 address 0 0 0 0 0
 
@@ -269,7 +274,7 @@ abbrev wake1 : Event
 wake1 = callOf 1 0 1 address 1 0 0 0 0
 
 abbrev pub mixed : List Event
-mixed = sleep0 ∷ sleep1 ∷ Store 9 address 1 ∷ Query 0 ∷ Clock 5 ∷ wake1 ∷ Interrupt 0 1 ∷ Query 9 ∷ Query 1 ∷ Clock 4 ∷ []
+mixed = sleep0 ∷ sleep1 ∷ Store 9 address 1 ∷ Query 0 ∷ Clock 5 ∷ wake1 ∷ Interrupt 0 1 ∷ Query 9 ∷ Query 1 ∷ SetPriority 1 0 32 ∷ Clock 4 ∷ []
 
 -- what of it is a process's: the events that are kept for it, and what its own were answered
 pub record Share : Type 0 where
@@ -283,7 +288,7 @@ share p events numbers = record { process = p; kept = events; answers = numbers 
 abbrev pub shares : List Share
 shares =
     share 0 (sleep0 ∷ Query 0 ∷ Clock 5 ∷ Interrupt 0 1 ∷ Clock 4 ∷ []) (asleep ∷ three 2 1 1 ∷ number 1 ∷ [])
-    ∷ share 1 (sleep1 ∷ Clock 5 ∷ wake1 ∷ Query 1 ∷ Clock 4 ∷ []) (asleep ∷ number 0 ∷ three 0 0 8 ∷ [])
+    ∷ share 1 (sleep1 ∷ Clock 5 ∷ wake1 ∷ Query 1 ∷ SetPriority 1 0 32 ∷ Clock 4 ∷ []) (asleep ∷ number 0 ∷ three 0 0 8 ∷ minus 22 ∷ [])
     ∷ share 2 (Clock 5 ∷ Clock 4 ∷ []) []
     ∷ share 9 (Store 9 address 1 ∷ Clock 5 ∷ Query 9 ∷ Clock 4 ∷ []) (minus 3 ∷ three 0 0 8 ∷ [])
     ∷ []
@@ -295,8 +300,13 @@ shareOf s = share (s .process) (keptFor (s .process) mixed) (map answerNumbers (
 abbrev brokenCount : State
 brokenCount = record { clock = 0; threads = replicate threads freshThread; list = replicate threads noEntry; count = 1 }
 
+-- "priority at most 31"
+abbrev highPriority : State
+highPriority =
+    record { clock = 0; threads = replicate (threads - 1) freshThread ++ (withPriority 32 freshThread ∷ []); list = replicate threads noEntry; count = 0 }
+
 abbrev pub each : List Event
-each = waitFor 0 address 0 ∷ Store 0 address 1 ∷ Clock 1 ∷ Interrupt 0 0 ∷ Query 0 ∷ []
+each = waitFor 0 address 0 ∷ Store 0 address 1 ∷ Clock 1 ∷ Interrupt 0 0 ∷ Query 0 ∷ SetPriority 0 0 1 ∷ []
 
 pub record Unsound : Type 0 where
   pub world : World
@@ -307,10 +317,11 @@ unsound w numbers = record { world = w; answers = numbers }
 
 abbrev pub unsounds : List Unsound
 unsounds =
-    unsound (start (0 ∷ [])) (minus 6 ∷ minus 6 ∷ minus 6 ∷ minus 6 ∷ three 0 0 8 ∷ [])
-    ∷ unsound (world brokenCount (replicate memoryWords 0)) (minus 9 ∷ minus 9 ∷ minus 9 ∷ minus 9 ∷ three 0 0 8 ∷ [])
+    unsound (start (0 ∷ [])) (minus 6 ∷ minus 6 ∷ minus 6 ∷ minus 6 ∷ three 0 0 8 ∷ minus 6 ∷ [])
+    ∷ unsound (world brokenCount (replicate memoryWords 0)) (minus 9 ∷ minus 9 ∷ minus 9 ∷ minus 9 ∷ three 0 0 8 ∷ minus 9 ∷ [])
+    ∷ unsound (world highPriority (replicate memoryWords 0)) (minus 9 ∷ minus 9 ∷ minus 9 ∷ minus 9 ∷ three 0 0 8 ∷ minus 9 ∷ [])
     -- both: "the first that applies answers"
-    ∷ unsound (world brokenCount []) (minus 6 ∷ minus 6 ∷ minus 6 ∷ minus 6 ∷ three 0 0 8 ∷ [])
+    ∷ unsound (world brokenCount []) (minus 6 ∷ minus 6 ∷ minus 6 ∷ minus 6 ∷ three 0 0 8 ∷ minus 6 ∷ [])
     ∷ []
 
 abbrev pub unsoundGiven : Unsound → Unsound

@@ -15,18 +15,19 @@ use Rattle.rules.specs.declared.event.Command.{Command}
 use Rattle.rules.specs.declared.event.Command.the-variants.{Wait, WaitBitset}
 use Rattle.rules.specs.declared.event.Call.{Call}
 use Rattle.rules.specs.declared.event.Event.{Event}
-use Rattle.rules.specs.declared.event.Event.the-variants.{Call as CallEvent, Store, Clock, Interrupt, Query}
+use Rattle.rules.specs.declared.event.Event.the-variants.{Call as CallEvent, Store, Clock, Interrupt, Query, SetPriority}
 use Rattle.rules.specs.declared.answer.Reason.{Reason}
-use Rattle.rules.specs.declared.answer.Reason.the-variants.{FirstCap, SecondCap, MaskZero, UaddrUnaligned, Uaddr2Unaligned, SameAddress, ClockBack}
+use Rattle.rules.specs.declared.answer.Reason.the-variants.{FirstCap, SecondCap, MaskZero, UaddrUnaligned, Uaddr2Unaligned, SameAddress, ClockBack, PriorityHigh}
 use Rattle.rules.specs.declared.answer.Refusal.{Refusal}
+use Rattle.rules.specs.declared.answer.Answer.{Answer}
 use Rattle.rules.specs.declared.answer.Answer.the-variants.{Count}
-use Rattle.tables.specs.Sizes.{processes, threadsPerProcess, threads, wordBytes, bytesPerProcess, memoryWords, wordLimit, maxCap}
-use Rattle.tables.specs.Tables.{expired, World, threadNumber, processOf, wordNumber, wordAt, ended, threadOf, arrivals, queue, tablesOk, movedTo, asleepAt}
-use Rattle.rules.specs.Answers.{Row}
+use Rattle.tables.specs.Sizes.{processes, threadsPerProcess, threads, wordBytes, bytesPerProcess, memoryWords, wordLimit, maxCap, maxPriority}
+use Rattle.tables.specs.Tables.{expired, World, threadNumber, processOf, wordNumber, wordAt, ended, threadOf, arrivals, queue, tablesOk, movedTo, asleepAt, withPriority}
+use Rattle.rules.specs.Answers.{Row, isRefused}
 use Rattle.rules.specs.Commands.{commandOf, bitSet, clockBit, uses}
 use Rattle.rules.specs.WakeOp.{newWord}
 use Rattle.rules.specs.Calls.{isWakeOp, caller, timeoutGiven, deadlineOf, maskOf, released, moved, releasedSecond}
-use Rattle.rules.specs.Events.{step}
+use Rattle.rules.specs.Events.{ofCall, step}
 use Rattle.rules.specs.History.{final}
 
 -- Refusals: x is the error, with its reason, of the first row that applies.
@@ -56,6 +57,8 @@ pub data Fault (w : World) : Reason → Event → Type 0 where
   sameAddress : (c : Call) → uses (commandOf (c .op)) .moves ≡ true → c .uaddr ≡ c .uaddr2 → Fault w SameAddress (CallEvent c)
   -- "7 clock went back"
   clockBack : (now : ℕ) → now < w .state .clock → Fault w ClockBack (Clock now)
+  -- "-22 if above 31 (reason 8)"
+  priorityHigh : (p i n : ℕ) → maxPriority < n → Fault w PriorityHigh (SetPriority p i n)
 
 -- Waits: WAIT or WAIT_BITSET.
 abbrev pub IsWait : Command → Type 0
@@ -123,11 +126,7 @@ shiftedCount w v = countBelow threads (shifted (w .state) (v .state))
 
 -- "where moves count": CMP_REQUEUE
 abbrev pub countsMoves : Event → Bool
-countsMoves (CallEvent c) = uses (commandOf (c .op)) .moves && uses (commandOf (c .op)) .compare
-countsMoves (Store p a v) = false
-countsMoves (Clock now) = false
-countsMoves (Interrupt p i) = false
-countsMoves (Query p) = false
+countsMoves e = ofCall (λ c. uses (commandOf (c .op)) .moves && uses (commandOf (c .op)) .compare) false e
 
 -- the same sleepers at a word, in the same order and with the same records
 pub record SameSleepers (p a : ℕ) (s u : State) : Type 0 where
@@ -147,6 +146,16 @@ before w t = threadOf (w .state) t
 abbrev pub after : Event → World → ℕ → Thread
 after e w t = threadOf (step e w .world .state) t
 
+-- an event that is answered 0 set its priority, and nothing else of its record
+pub record PrioritySet (e : Event) (w : World) (t : ℕ) : Type 0 where
+  pub process : ℕ
+  pub index : ℕ
+  pub priority : ℕ
+  pub event : e ≡ SetPriority process index priority
+  pub thread : t ≡ threadNumber process index
+  pub answer : step e w .answer ≡ Count 0
+  pub left : after e w t ≡ withPriority priority (before w t)
+
 pub data Fate (e : Event) (w : World) (t : ℕ) : Type 0 where
   -- its record is as it was
   stays : after e w t ≡ before w t → Fate e w t
@@ -160,6 +169,23 @@ pub data Fate (e : Event) (w : World) (t : ℕ) : Type 0 where
   timesOut : (now : ℕ) → e ≡ Clock now → expired now (before w t) ≡ true → after e w t ≡ ended TimedOut (before w t) → Fate e w t
   -- an interrupt named it
   isInterrupted : (p i : ℕ) → e ≡ Interrupt p i → t ≡ threadNumber p i → before w t .waiting ≡ true → after e w t ≡ ended Interrupted (before w t) → Fate e w t
+  -- its priority was set
+  isSet : PrioritySet e w t → Fate e w t
+
+-- Priorities: what an event that is answered so makes of the priority of thread t.
+abbrev pub priorityBy : Event → Answer → ℕ → ℕ → ℕ
+priorityBy (CallEvent c) a t old = old
+priorityBy (Store p x v) a t old = old
+priorityBy (Clock now) a t old = old
+priorityBy (Interrupt p i) a t old = old
+priorityBy (Query p) a t old = old
+priorityBy (SetPriority p i n) a t old = cond (eqb t (threadNumber p i) && not (isRefused a)) n old
+
+-- the same of a history: the last that was set, and else the old one
+abbrev pub priorityAfter : List Event → List Answer → ℕ → ℕ → ℕ
+priorityAfter [] l t old = old
+priorityAfter (e ∷ es) [] t old = old
+priorityAfter (e ∷ es) (a ∷ l) t old = priorityAfter es l t (priorityBy e a t old)
 
 -- No lost wake: thread t is asleep at address a of its process.
 abbrev pub asleepThere : ℕ → ℕ → World → Bool

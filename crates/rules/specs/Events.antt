@@ -8,21 +8,26 @@ use lib.Count.{ones, trailingZeros}
 use Rattle.lists.specs.Lists.{bit}
 use Rattle.tables.specs.declared.State.{State}
 use Rattle.tables.specs.declared.LastAnswer.the-variants.{TimedOut, Interrupted}
+use Rattle.rules.specs.declared.event.Call.{Call}
 use Rattle.rules.specs.declared.event.Event.{Event}
-use Rattle.rules.specs.declared.event.Event.the-variants.{Call, Store, Clock, Interrupt, Query}
+use Rattle.rules.specs.declared.event.Event.the-variants.{Call as CallEvent, Store, Clock, Interrupt, Query, SetPriority}
 use Rattle.rules.specs.declared.answer.Errno.the-variants.{ESRCH, EINVAL, EFAULT}
-use Rattle.rules.specs.declared.answer.Reason.the-variants.{UaddrUnaligned, ClockBack}
+use Rattle.rules.specs.declared.answer.Reason.the-variants.{UaddrUnaligned, ClockBack, PriorityHigh}
 use Rattle.rules.specs.declared.answer.Panel.{Panel}
 use Rattle.rules.specs.declared.answer.Answer.the-variants.{Count, Waiting}
-use Rattle.tables.specs.Sizes.{threadsPerProcess}
-use Rattle.tables.specs.Tables.{outside, World, expiredSleepers, threadNumber, threadOf, wordAt, aligned, tablesOk, endSleeps, writeWord, withClock, withState}
+use Rattle.tables.specs.Sizes.{threadsPerProcess, maxPriority}
+use Rattle.tables.specs.Tables.{outside, World, expiredSleepers, threadNumber, threadOf, wordAt, aligned, tablesOk, endSleeps, setPriority, writeWord, withClock, withState}
 use Rattle.rules.specs.Answers.{Row, _because_, _given_, _when_, first, Outcome, outcome, judged}
 use Rattle.rules.specs.Commands.{commandOf}
 use Rattle.rules.specs.Calls.{firstRows, noProcess, noThread, caller, callRows, callEffect}
 
+-- of a priority that is to be set: "Answers in order: -6, -9, -3, -22 if above 31 (reason 8), else 0."
+abbrev pub priorityRows : ℕ → ℕ → ℕ → List Row
+priorityRows p i n = ESRCH when noThread p i ∷ EINVAL because PriorityHigh given ltb maxPriority n ∷ []
+
 -- The rows behind the first two, in the order of each event.
 abbrev pub ownRows : Event → World → List Row
-ownRows (Call c) w =
+ownRows (CallEvent c) w =
     callRows c (threadOf (w .state) (caller c) .waiting) (w .state .clock) (wordAt w (c .process) (c .uaddr))
 -- "-6, -9, -3, -22 (not aligned), -14"; "4 uaddr not aligned (also a store's address)"
 ownRows (Store p a v) w = ESRCH when noProcess p ∷ EINVAL because UaddrUnaligned given not (aligned a) ∷ EFAULT when outside a ∷ []
@@ -31,14 +36,28 @@ ownRows (Clock now) w = EINVAL because ClockBack given ltb now (w .state .clock)
 -- "-6, -9, -3"
 ownRows (Interrupt p i) w = ESRCH when noThread p i ∷ []
 ownRows (Query p) w = []
+ownRows (SetPriority p i n) w = priorityRows p i n
 
 -- a panel query, which is always answered
 abbrev pub isQuery : Event → Bool
-isQuery (Call c) = false
+isQuery (CallEvent c) = false
 isQuery (Store p a v) = false
 isQuery (Clock now) = false
 isQuery (Interrupt p i) = false
 isQuery (Query p) = true
+isQuery (SetPriority p i n) = false
+
+-- what is asked of a call alone, and what is said of every other event
+abbrev pub ofCall {ℓ} : {A : Type ℓ} → (Call → A) → A → Event → A
+ofCall f other (CallEvent c) = f c
+ofCall f other (Store p a v) = other
+ofCall f other (Clock now) = other
+ofCall f other (Interrupt p i) = other
+ofCall f other (Query p) = other
+ofCall f other (SetPriority p i n) = other
+
+abbrev pub isCall : Event → Bool
+isCall e = ofCall (λ c. true) false e
 
 -- What each event may be refused with, in order.
 unfoldable pub refusals : Event → World → List Row
@@ -76,12 +95,14 @@ panel p s = panelOf (cond (noProcess p || not (tablesOk s)) 0 (waitingSet p s))
 
 -- what an event does where nothing refuses it
 unfoldable pub effect : Event → World → Outcome
-effect (Call c) w = callEffect (commandOf (c .op)) c w
+effect (CallEvent c) w = callEffect (commandOf (c .op)) c w
 -- "0 and that word changed. It wakes nobody."
 effect (Store p a v) w = outcome (Count 0) (writeWord p a v w)
 effect (Clock now) w = clockEffect now w
 effect (Interrupt p i) w = interruptEffect (threadNumber p i) w
 effect (Query p) w = outcome (Waiting (panel p (w .state))) w
+-- "Log kind 5 sets it .. It is allowed for a sleeper"
+effect (SetPriority p i n) w = outcome (Count 0) (withState (setPriority n (threadNumber p i) (w .state)) w)
 
 -- The kernel: what an event is answered, and the tables and words that it leaves.
 unfoldable pub step : Event → World → Outcome

@@ -5,7 +5,7 @@ use Prim.Native.Nat.{ℕ}
 use lib.Dec.{eqb}
 use Rattle.lists.specs.Lists.{filter}
 use Rattle.rules.specs.declared.event.Event.{Event}
-use Rattle.rules.specs.declared.event.Event.the-variants.{Call, Store, Clock, Interrupt, Query}
+use Rattle.rules.specs.declared.event.Event.the-variants.{Call, Store, Clock, Interrupt, Query, SetPriority}
 use Rattle.rules.specs.declared.answer.Answer.{Answer}
 use Rattle.tables.specs.Tables.{World, fresh}
 use Rattle.rules.specs.Events.{step}
@@ -29,13 +29,15 @@ pub data Named : Type 0 where
   process : ℕ → Named
   nobody : Named
 
--- "A call, store, interrupt or panel query belongs to the process that it names. A clock event belongs to none"
+-- "A call, store, interrupt or panel query belongs to the process that it names. A clock event belongs to none"; of a priority that is set:
+-- "It .. belongs to the named process."
 abbrev pub named : Event → Named
 named (Call c) = process (c .process)
 named (Store p a v) = process p
 named (Clock now) = nobody
 named (Interrupt p i) = process p
 named (Query p) = process p
+named (SetPriority p i n) = process p
 
 -- a clock event is the one that names nobody
 abbrev pub namesNobody : Named → Bool

@@ -11,8 +11,8 @@ use Rattle.rules.specs.declared.event.Command.{Command}
 use Rattle.rules.specs.declared.event.Command.the-variants.{Wait, Wake, Requeue, CmpRequeue, WakeOp, WaitBitset, WakeBitset, Unknown}
 use Rattle.rules.specs.declared.event.Call.{Call}
 use Rattle.rules.specs.declared.event.Event.{Event}
-use Rattle.rules.specs.declared.event.Event.the-variants.{Call as CallEvent, Store, Clock, Interrupt, Query}
-use Rattle.tables.specs.Sizes.{threadsPerProcess}
+use Rattle.rules.specs.declared.event.Event.the-variants.{Call as CallEvent, Store, Clock, Interrupt, Query, SetPriority}
+use Rattle.tables.specs.Sizes.{threadsPerProcess, maxPriority}
 use Rattle.tables.specs.Tables.{World, threadNumber, threadOf, wordAt, aligned, outside, expiredSleepers}
 use Rattle.rules.specs.Commands.{commandOf, notImplemented}
 use Rattle.rules.specs.WakeOp.{undefinedOp}
@@ -74,3 +74,10 @@ numbersOf (Interrupt p i) w =
     (pos (cond (threadOf (w .state) (threadNumber p i) .waiting) 1 0) ∷ [])))
 -- "A process above 7 gives 0, 0, 8; so do tables that break a rule."
 numbersOf (Query p) w = shown (cond (noProcess p || brokenTables w) 0 (waitingSet p (w .state)))
+-- "-6, -9, -3, -22 if above 31 (reason 8), else 0"
+numbersOf (SetPriority p i n) w =
+    refuse 6 (wrongMemory w)
+    (refuse 9 (brokenTables w)
+    (refuse 3 (noThread p i)
+    (refuse 22 (ltb maxPriority n)
+    (pos 0 ∷ []))))

@@ -44,6 +44,7 @@ pub enum Reason {
     Uaddr2Unaligned,
     SameAddress,
     ClockBack,
+    PriorityHigh,
 }
 
 impl Reason {
@@ -59,6 +60,7 @@ impl Reason {
             Reason::Uaddr2Unaligned => 5,
             Reason::SameAddress => 6,
             Reason::ClockBack => 7,
+            Reason::PriorityHigh => 8,
         }
     }
 }

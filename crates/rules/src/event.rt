@@ -1,4 +1,4 @@
-// What can happen to the kernel: calls, stores, clock events, interrupts and panel queries.
+// What can happen to the kernel: calls, stores, clock events, interrupts, panel queries and set priorities.
 
 // The commands of linux/futex.h that the kernel knows.
 pub enum Command {
@@ -57,5 +57,10 @@ pub enum Event {
     },
     Query {
         process: u8,
+    },
+    SetPriority {
+        process: u8,
+        index: u8,
+        priority: u8,
     },
 }

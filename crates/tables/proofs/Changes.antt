@@ -4,10 +4,10 @@ use mathlib.Core.Bool.{true, false, cond, or-true, or-false}
 use mathlib.Core.List.{List, [], _∷_, _++_}
 use Prim.Native.Nat.{ℕ, _+_, _<_, _-_}
 use native.Mathlib.Omega.{arith}
-use lib.ListN.{length, take, getD, set, replicate, length-set}
+use lib.ListN.{length, take, getD, set, replicate, length-set, List·getD-eq-default}
 use lib.Seq.{take-append-seam, getD-set-same, getD-set-other, ext-getD}
-use lib.Dec.{eqb}
-use borrow.Author.Tests.{eqb-true, eqb-false}
+use lib.Dec.{eqb, ltb}
+use borrow.Author.Tests.{eqb-true, eqb-false, ltb-true, ltb-false}
 use Rattle.lists.specs.Lists.{update, elem, without}
 use Rattle.lists.proofs.Tests.{cases, eqb-refl}
 use Rattle.lists.proofs.Occurs.{elem-append, without-append}
@@ -40,6 +40,15 @@ change-at f ts rs t d h = getD-update (λ t r. cond (elem t ts) (f r) r) rs t d 
 pub change-named : (f : Thread → Thread) (ts : List ℕ) (rs : List Thread) (t : ℕ) (d : Thread) → elem t ts ≡ true
     → t < length rs → getD (change f ts rs) t d ≡ f (getD rs t d)
 change-named f ts rs t d e h = change-at f ts rs t d h ∙ rw e
+
+-- what a change keeps of a record, it keeps of every record
+pub change-kept : {A : Type 0} (field : Thread → A) (f : Thread → Thread) → ((r : Thread) → field (f r) ≡ field r)
+    → (ts : List ℕ) (rs : List Thread) (t : ℕ) (d : Thread) → field (getD (change f ts rs) t d) ≡ field (getD rs t d)
+change-kept field f keeps ts rs t d = cases (ltb t (length rs))
+    (λ e. rw (change-at f ts rs t d (ltb-true t (length rs) e)) (cases (elem t ts) (λ h. rw h (keeps (getD rs t d))) (λ h. rw h)))
+    (λ e.
+    let out = ltb-false t (length rs) e in
+    rw (List·getD-eq-default (change f ts rs) d {n = t} (omega (arith, length-change f ts rs)), List·getD-eq-default rs d {n = t} out))
 
 pub change-none : (f : Thread → Thread) (rs : List Thread) → change f [] rs ≡ rs
 unfolding change
@@ -74,6 +83,11 @@ module _ (f : Thread → Thread) (again : (r : Thread) → f (f r) ≡ f r) (ts 
       ext-getD d (change f (ts ++ (t ∷ [])) rs) (set (change f ts rs) t new)
       (length-change f (ts ++ (t ∷ [])) rs ∙ sym (length-set (change f ts rs) t new ∙ length-change f ts rs))
       (λ i l. at-next i (omega (arith, length-change f (ts ++ (t ∷ [])) rs)))
+
+-- one thread changed
+pub change-one : (f : Thread → Thread) → ((r : Thread) → f (f r) ≡ f r) → (rs : List Thread) (t : ℕ) (d : Thread) → t < length rs
+    → change f (t ∷ []) rs ≡ set rs t (f (getD rs t d))
+change-one f again rs t d h = change-next f again [] rs t d h ∙ rw (change-none f rs)
 
 -- the arrival list
 pub arrivals-with : (l : List ℕ) (s : State) → arrivals (withArrivals l s) ≡ l

@@ -6,7 +6,7 @@ use Prim.Native.Nat.{ℕ, _≤_, _<_}
 use native.Mathlib.Omega.{arith}
 use lib.ListN.{length, List·getD-eq-default}
 use lib.Dec.{eqb, leb, ltb}
-use borrow.Author.Tests.{leb-false, ltb-true, ltb-false, lt-ltb}
+use borrow.Author.Tests.{leb-false, le-leb, ltb-true, ltb-false, lt-ltb}
 use Rattle.lists.specs.Lists.{filter, elem, without, bit}
 use Rattle.lists.proofs.Tests.{cases, and-intro, and-left, and-right, or-left, bit-le, eqb-refl}
 use Rattle.lists.proofs.Occurs.{occurs, elem-one, elem-occurs, absent-occurs, occurs-append, occurs-filter, occurs-without, occurs-taken-out}
@@ -14,10 +14,10 @@ use Rattle.tables.specs.declared.State.{State}
 use Rattle.tables.specs.declared.Thread.{Thread}
 use Rattle.tables.specs.declared.LastAnswer.{LastAnswer}
 use Rattle.tables.specs.declared.LastAnswer.the-variants.{TimedOut}
-use Rattle.tables.specs.Sizes.{threads, bytesPerProcess}
-use Rattle.tables.specs.Tables.{freshThread, threadOf, arrivals, aligned, outside, expired, expiredSleepers, deadlineOk, waitingOk, recordOk, change, ended, movedTo, withArrivals, withThreads, withClock, endSleeps, moveSleeps, fallAsleep}
+use Rattle.tables.specs.Sizes.{threads, bytesPerProcess, maxPriority}
+use Rattle.tables.specs.Tables.{freshThread, threadOf, arrivals, aligned, outside, expired, expiredSleepers, deadlineOk, waitingOk, sleepOk, priorityOk, recordOk, change, ended, movedTo, withPriority, withArrivals, withThreads, withClock, endSleeps, moveSleeps, fallAsleep, setPriority}
 use Rattle.tables.proofs.Changes.{length-change, change-other, change-named}
-use Rattle.tables.proofs.Sound.{Sound, waiting-below, part-waits, fresh-ok, ended-ok, sound-with}
+use Rattle.tables.proofs.Sound.{Sound, beyond, waiting-below, part-waits, fresh-ok, ended-ok, sleep-kept, priority-kept, sound-with}
 
 -- the records of ts changed by f, and a new arrival list
 unfoldable altered : (Thread → Thread) → List ℕ → List ℕ → State → State
@@ -46,31 +46,30 @@ module _ (f : Thread → Thread) (ts l : List ℕ) (s : State) (size : length (s
 
 -- sleeps that end
 sound-end : (a : LastAnswer) (ts : List ℕ) (s : State) → length (s .threads) ≡ threads
+    → ((t : ℕ) → priorityOk (threadOf s t) ≡ true)
     → ((t : ℕ) → elem t ts ≡ false → recordOk (s .clock) (threadOf s t) ≡ true)
     → ((t : ℕ) → occurs t (arrivals s) ≡ bit (threadOf s t .waiting))
     → Sound (endSleeps a ts s)
 unfolding endSleeps altered
-sound-end a ts s size other exact =
-    sound-altered (ended a) ts (without ts (arrivals s)) s size (λ t e. ended-ok (s .clock) a (threadOf s t)) other
+sound-end a ts s size low other exact =
+    sound-altered (ended a) ts (without ts (arrivals s)) s size (λ t e. ended-ok (s .clock) a (threadOf s t) (low t)) other
     (λ t. altered-record (ended a) ts (without ts (arrivals s)) s size (λ r. occurs t (without ts (arrivals s)) ≡ bit (r .waiting)) t
     (λ e h. occurs-taken-out t ts (arrivals s) e)
     (λ e. occurs-taken-out t ts (arrivals s) e)
     (λ e. occurs-without t ts (arrivals s) e ∙ exact t))
 
 pub ending : (a : LastAnswer) (ts : List ℕ) (s : State) → Sound s → Sound (endSleeps a ts s)
-ending a ts s g = sound-end a ts s (g .records) (λ t e. g .kept t) (g .exact)
+ending a ts s g = sound-end a ts s (g .records) (priority-kept s g) (λ t e. g .kept t) (g .exact)
 
 -- sleeps that move
-waiting-ok : (now : ℕ) (r : Thread) → recordOk now r ≡ true → r .waiting ≡ true → waitingOk now r ≡ true
-unfolding recordOk
+waiting-ok : (now : ℕ) (r : Thread) → sleepOk now r ≡ true → r .waiting ≡ true → waitingOk now r ≡ true
 waiting-ok now r ok on = rw on at ok
 
 pub below-ok : (a : ℕ) → outside a ≡ false → ltb a bytesPerProcess ≡ true
 below-ok a h = lt-ltb a bytesPerProcess (leb-false bytesPerProcess a h)
 
-moved-ok : (a now : ℕ) (r : Thread) → aligned a ≡ true → outside a ≡ false → recordOk now r ≡ true → r .waiting ≡ true
-    → recordOk now (movedTo a r) ≡ true
-unfolding recordOk
+moved-ok : (a now : ℕ) (r : Thread) → aligned a ≡ true → outside a ≡ false → sleepOk now r ≡ true → r .waiting ≡ true
+    → sleepOk now (movedTo a r) ≡ true
 moved-ok a now r al near ok on =
     let w = waiting-ok now r ok on in
     let m = and-left (aligned (r .uaddr) && ltb (r .uaddr) bytesPerProcess && not (eqb (r .bitset) 0)) (deadlineOk now r) w in
@@ -81,10 +80,10 @@ moved-ok a now r al near ok on =
 
 pub sound-move : (a : ℕ) (ts : List ℕ) (s : State) → aligned a ≡ true → outside a ≡ false
     → ((t : ℕ) → occurs t ts ≤ occurs t (arrivals s)) → Sound s → Sound (moveSleeps a ts s)
-unfolding moveSleeps altered
+unfolding moveSleeps altered recordOk
 sound-move a ts s al near sub g =
     sound-altered (movedTo a) ts (without ts (arrivals s) ++ ts) s (g .records)
-    (λ t e. moved-ok a (s .clock) (threadOf s t) al near (g .kept t) (part-waits s g ts sub t e))
+    (λ t e. and-intro (moved-ok a (s .clock) (threadOf s t) al near (sleep-kept s g t) (part-waits s g ts sub t e)) (priority-kept s g t))
     (λ t e. g .kept t)
     (λ t. altered-record (movedTo a) ts (without ts (arrivals s) ++ ts) s (g .records) (λ r. occurs t (without ts (arrivals s) ++ ts) ≡ bit (r .waiting)) t
     (λ e h. absurd (let k = waiting-below s g t (part-waits s g ts sub t e) in omega arith))
@@ -107,8 +106,7 @@ sound-sleep f t s low off on ok g =
     (λ e. occurs-append u (arrivals s) (t ∷ []) ∙ omega (arith, g .exact u, ap bit (or-left (eqb u t) false e))))
 
 -- what the clock does not end keeps its rule at the new time
-late-ok : (now then : ℕ) (r : Thread) → recordOk then r ≡ true → expired now r ≡ false → recordOk now r ≡ true
-unfolding recordOk
+late-ok : (now then : ℕ) (r : Thread) → sleepOk then r ≡ true → expired now r ≡ false → sleepOk now r ≡ true
 late-ok now then r ok x = cases (r .waiting)
     (λ on.
     let w = waiting-ok then r ok on in
@@ -121,9 +119,9 @@ late-ok now then r ok x = cases (r .waiting)
     ahead false e on d = rw e (rw e at d)
 
 pub sound-clock : (now : ℕ) (s : State) → Sound s → Sound (endSleeps TimedOut (expiredSleepers now s) (withClock now s))
-unfolding expiredSleepers
-sound-clock now s g = sound-end TimedOut (expiredSleepers now s) (withClock now s) (g .records)
-    (λ t e. late-ok now (s .clock) (threadOf s t) (g .kept t) (cases (expired now (threadOf s t))
+unfolding expiredSleepers recordOk
+sound-clock now s g = sound-end TimedOut (expiredSleepers now s) (withClock now s) (g .records) (priority-kept s g)
+    (λ t e. and-intro (late-ok now (s .clock) (threadOf s t) (sleep-kept s g t) (cases (expired now (threadOf s t))
     (λ x. absurd (omega (
       arith,
       occurs-filter (λ u. expired now (threadOf s u)) t (arrivals s) x,
@@ -131,5 +129,24 @@ sound-clock now s g = sound-end TimedOut (expiredSleepers now s) (withClock now 
       g .exact t,
       ap bit (and-left (threadOf s t .waiting) (threadOf s t .timed) (and-left (threadOf s t .waiting && threadOf s t .timed) (leb (threadOf s t .deadline) now) x)),
     )))
-    (λ x. x)))
+    (λ x. x))) (priority-kept s g t))
     (g .exact)
+
+-- a priority that is set
+priority-ok : (n now : ℕ) (r : Thread) → n ≤ maxPriority → recordOk now r ≡ true → recordOk now (withPriority n r) ≡ true
+unfolding recordOk
+priority-ok n now r low ok = and-intro (and-left (sleepOk now r) (priorityOk r) ok) (le-leb n maxPriority low)
+
+pub sound-priority : (n t : ℕ) (s : State) → n ≤ maxPriority → Sound s → Sound (setPriority n t s)
+unfolding setPriority altered
+sound-priority n t s low g =
+    let changed = altered-record (withPriority n) (t ∷ []) (arrivals s) s (g .records) in
+    record {
+      records = length-change (withPriority n) (t ∷ []) (s .threads) ∙ g .records;
+      stored = g .stored;
+      counted = g .counted;
+      kept = λ u. changed (λ r. recordOk (s .clock) r ≡ true) u
+          (λ e h. fresh-ok (s .clock)) (λ e. priority-ok n (s .clock) (threadOf s u) low (g .kept u)) (λ e. g .kept u);
+      exact = λ u. changed (λ r. occurs u (arrivals s) ≡ bit (r .waiting)) u
+          (λ e h. g .exact u ∙ ap (λ (r : Thread). bit (r .waiting)) (beyond s (g .records) u h)) (λ e. g .exact u) (λ e. g .exact u);
+    }

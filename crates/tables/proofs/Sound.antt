@@ -17,7 +17,7 @@ use Rattle.tables.specs.declared.State.{State}
 use Rattle.tables.specs.declared.Thread.{Thread}
 use Rattle.tables.specs.declared.LastAnswer.{LastAnswer}
 use Rattle.tables.specs.Sizes.{threads, bytesPerProcess, noEntry}
-use Rattle.tables.specs.Tables.{freshThread, ended, threadOf, arrivals, expired, aligned, recordOk, sizesOk, countOk, numbersOk, exactOk, tailOk, recordsOk, tablesOk, fresh, withArrivals}
+use Rattle.tables.specs.Tables.{freshThread, ended, threadOf, arrivals, expired, aligned, sleepOk, priorityOk, recordOk, sizesOk, countOk, numbersOk, exactOk, tailOk, recordsOk, tablesOk, fresh, withArrivals}
 use Rattle.tables.proofs.Changes.{arrivals-with}
 
 -- The table rules as facts. That the entries are all different and exactly the waiting threads is one equation for each number.
@@ -29,7 +29,7 @@ pub record Sound (s : State) : Type 0 where
   pub exact : (t : ℕ) → occurs t (arrivals s) ≡ bit (threadOf s t .waiting)
 
 -- past the records there is none
-beyond : (s : State) → length (s .threads) ≡ threads → (t : ℕ) → threads ≤ t → threadOf s t ≡ freshThread
+pub beyond : (s : State) → length (s .threads) ≡ threads → (t : ℕ) → threads ≤ t → threadOf s t ≡ freshThread
 beyond s n t h = List·getD-eq-default (s .threads) freshThread (omega arith)
 
 -- From the facts.
@@ -41,14 +41,21 @@ module _ (s : State) (g : Sound s) where
       (λ h. ltb-true t threads h)
       (λ h. clash (threadOf s t .waiting) e (ap (λ (r : Thread). r .waiting) (beyond s (g .records) t (ltb-false t threads h))))
 
+  pub sleep-kept : (t : ℕ) → sleepOk (s .clock) (threadOf s t) ≡ true
+  unfolding recordOk
+  sleep-kept t = and-left (sleepOk (s .clock) (threadOf s t)) (priorityOk (threadOf s t)) (g .kept t)
+
+  pub priority-kept : (t : ℕ) → priorityOk (threadOf s t) ≡ true
+  unfolding recordOk
+  priority-kept t = and-right (sleepOk (s .clock) (threadOf s t)) (priorityOk (threadOf s t)) (g .kept t)
+
   -- a deadline that the clock has reached belongs to nobody asleep
   pub none-overdue : (t : ℕ) → expired (s .clock) (threadOf s t) ≡ false
-  unfolding recordOk
   none-overdue t =
       let r = threadOf s t in
       cases (r .waiting)
       (λ w. cases (r .timed)
-      (λ d. let ok : (aligned (r .uaddr) && ltb (r .uaddr) bytesPerProcess && not (eqb (r .bitset) 0) && ltb (s .clock) (r .deadline)) ≡ true = cc (g .kept t) in
+      (λ d. let ok : (aligned (r .uaddr) && ltb (r .uaddr) bytesPerProcess && not (eqb (r .bitset) 0) && ltb (s .clock) (r .deadline)) ≡ true = cc (sleep-kept t) in
       rw (w, d, lt-leb (r .deadline) (s .clock) (ltb-true (s .clock) (r .deadline) (and-right (aligned (r .uaddr) && ltb (r .uaddr) bytesPerProcess && not (eqb (r .bitset) 0)) (ltb (s .clock) (r .deadline)) ok))))
       (λ d. rw (w, d)))
       (λ w. rw w)
@@ -158,9 +165,9 @@ pub fresh-ok : (now : ℕ) → recordOk now freshThread ≡ true
 unfolding recordOk
 fresh-ok now = refl
 
-pub ended-ok : (now : ℕ) (a : LastAnswer) (r : Thread) → recordOk now (ended a r) ≡ true
+pub ended-ok : (now : ℕ) (a : LastAnswer) (r : Thread) → priorityOk r ≡ true → recordOk now (ended a r) ≡ true
 unfolding recordOk
-ended-ok now a r = refl
+ended-ok now a r ok = ok
 
 module _ (s : State) (r : Rules s) where
   arrived : length (arrivals s) ≡ s .count

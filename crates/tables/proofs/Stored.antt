@@ -20,9 +20,9 @@ use Rattle.tables.specs.declared.LastAnswer.the-variants.{Woken}
 use Rattle.tables.specs.declared.Change.the-variants.{End, MoveTo}
 use Rattle.arrivals.specs.declared.Found.{Found}
 use Rattle.tables.specs.Sizes.{threads, noEntry}
-use Rattle.tables.specs.Tables.{freshThread, threadOf, arrivals, change, withThreads, ended, endSleeps, moveSleeps, fallAsleep, asleepAt}
+use Rattle.tables.specs.Tables.{freshThread, threadOf, arrivals, change, withThreads, ended, withPriority, endSleeps, moveSleeps, fallAsleep, setPriority, asleepAt}
 use Rattle.tables.specs.Steps.{changedBy, Numbers, Flags, flagged, foundOf, endFirst, requeueFirst}
-use Rattle.tables.proofs.Changes.{arrivals-end, change-none, change-next}
+use Rattle.tables.proofs.Changes.{arrivals-end, change-none, change-one}
 use Rattle.arrivals.proofs.Theorems.{taken-stored, found-released, found-moved, found-left}
 use Rattle.tables.proofs.Sound.{Sound, listed-below, all-low, once, arrivals-fit, room}
 
@@ -159,12 +159,20 @@ unfolding fallAsleep
 falls-asleep s g t a m timed due new low runs is =
     let f = asleepAt a m timed due in
     let records : change f (t ∷ []) (s .threads) ≡ set (s .threads) t new =
-    change-next f (λ r. refl) [] (s .threads) t freshThread (omega (arith, g .records)) ∙ rw (change-none f (s .threads)) (ap (set (s .threads) t) (sym is)) in
+    change-one f (λ r. refl) (s .threads) t freshThread (omega (arith, g .records)) ∙ ap (set (s .threads) t) (sym is) in
     let list : set (s .list) (s .count) t ≡ padTo threads noEntry (arrivals s ++ (t ∷ [])) =
     ap (λ l. set l (s .count) t) (g .stored) ∙ ap (λ n. set (padTo threads noEntry (arrivals s)) n t) (g .counted)
     ∙ padTo-snoc threads noEntry (arrivals s) t (omega (arith, g .counted, room s g t low runs)) in
     let count : s .count + 1 ≡ length (arrivals s ++ (t ∷ [])) = ap (_+ 1) (g .counted) ∙ sym (length-snoc (arrivals s) t) in
     cc (records, list, count)
+
+-- a thread whose priority is set
+pub sets-priority : (n t : ℕ) (s : State) (new : Thread) → length (s .threads) ≡ threads → t < threads → new ≡ withPriority n (threadOf s t)
+    → withThreads (set (s .threads) t new) s ≡ setPriority n t s
+unfolding setPriority
+sets-priority n t s new size low is =
+    ap (λ rs. withThreads rs s)
+    (ap (set (s .threads) t) is ∙ sym (change-one (withPriority n) (λ r. refl) (s .threads) t freshThread (omega arith)))
 
 -- tables that keep the rules are as they would be stored, so that ending nobody's sleep changes nothing
 pub end-nobody : (a : LastAnswer) (s : State) → Sound s → endSleeps a [] s ≡ s

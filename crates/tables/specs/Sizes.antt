@@ -31,6 +31,10 @@ timeLimit = 2 ^ 64
 abbrev pub matchAny : ℕ
 matchAny = wordLimit - 1
 
+-- "a base priority, 0 to 31"
+abbrev pub maxPriority : ℕ
+maxPriority = 31
+
 -- the largest wake cap or second cap: -22 if "above 2147483647"
 abbrev pub maxCap : ℕ
 maxCap = 2147483647

@@ -10,7 +10,7 @@ use Rattle.tables.specs.declared.State.{State}
 use Rattle.tables.specs.declared.Thread.{Thread}
 use Rattle.tables.specs.declared.LastAnswer.{LastAnswer}
 use Rattle.tables.specs.declared.LastAnswer.the-variants.{NoneYet}
-use Rattle.tables.specs.Sizes.{threads, threadsPerProcess, wordsPerProcess, wordBytes, bytesPerProcess, noEntry}
+use Rattle.tables.specs.Sizes.{threads, threadsPerProcess, wordsPerProcess, wordBytes, bytesPerProcess, noEntry, maxPriority}
 
 -- The tables and the lent words, which the kernel is handed with each event.
 pub record World : Type 0 where
@@ -35,9 +35,9 @@ wordNumber p a = wordsPerProcess * p + a / wordBytes
 abbrev pub wordAt : World → ℕ → ℕ → ℕ
 wordAt w p a = getD (w .words) (wordNumber p a) 0
 
--- A thread's record at the start: "all running, last answers 1".
+-- A thread's record at the start: "all running, last answers 1"; "a base priority, 0 to 31, 0 at the start".
 abbrev pub freshThread : Thread
-freshThread = record { waiting = false; uaddr = 0; bitset = 0; timed = false; deadline = 0; last = NoneYet }
+freshThread = record { waiting = false; uaddr = 0; bitset = 0; timed = false; deadline = 0; last = NoneYet; priority = 0 }
 
 abbrev pub threadOf : State → ℕ → Thread
 threadOf s t = getD (s .threads) t freshThread
@@ -99,9 +99,16 @@ deadlineOk now r = cond (r .timed) (ltb now (r .deadline)) (eqb (r .deadline) 0)
 abbrev pub waitingOk : ℕ → Thread → Bool
 waitingOk now r = aligned (r .uaddr) && ltb (r .uaddr) bytesPerProcess && not (eqb (r .bitset) 0) && deadlineOk now r
 
--- A record by its rule. "the last answer is one of the four": its type holds no other.
+abbrev pub sleepOk : ℕ → Thread → Bool
+sleepOk now r = cond (r .waiting) (waitingOk now r) (runningOk r)
+
+-- "priority at most 31", of a running and of a waiting record
+abbrev pub priorityOk : Thread → Bool
+priorityOk r = leb (r .priority) maxPriority
+
+-- A record by its rules. "the last answer is one of the four": its type holds no other.
 unfoldable pub recordOk : ℕ → Thread → Bool
-recordOk now r = cond (r .waiting) (waitingOk now r) (runningOk r)
+recordOk now r = sleepOk now r && priorityOk r
 
 abbrev pub recordsOk : State → Bool
 recordsOk s = all (recordOk (s .clock)) (s .threads)
@@ -141,14 +148,19 @@ withArrivals l s = record { clock = s .clock; threads = s .threads; list = padTo
 abbrev pub withClock : ℕ → State → State
 withClock now s = record { clock = now; threads = s .threads; list = s .list; count = s .count }
 
--- A record with another sleep, and one with another last answer. What they do not name is kept: each change of a record is made of
--- these two, so that a field that is added later is kept by all of them.
+-- A record with another sleep, one with another last answer, and one with another priority. What they do not name is kept: each change of
+-- a record is made of these three, so that a field that is added later is kept by all of them.
 abbrev pub withSleep : Bool → ℕ → ℕ → Bool → ℕ → Thread → Thread
-withSleep waiting a m timed due r = record { waiting = waiting; uaddr = a; bitset = m; timed = timed; deadline = due; last = r .last }
+withSleep waiting a m timed due r =
+    record { waiting = waiting; uaddr = a; bitset = m; timed = timed; deadline = due; last = r .last; priority = r .priority }
 
 abbrev pub withLast : LastAnswer → Thread → Thread
 withLast a r =
-    record { waiting = r .waiting; uaddr = r .uaddr; bitset = r .bitset; timed = r .timed; deadline = r .deadline; last = a }
+    record { waiting = r .waiting; uaddr = r .uaddr; bitset = r .bitset; timed = r .timed; deadline = r .deadline; last = a; priority = r .priority }
+
+abbrev pub withPriority : ℕ → Thread → Thread
+withPriority n r =
+    record { waiting = r .waiting; uaddr = r .uaddr; bitset = r .bitset; timed = r .timed; deadline = r .deadline; last = r .last; priority = n }
 
 -- the records of the threads ts changed by f, the others as they were
 unfoldable pub change : (Thread → Thread) → List ℕ → List Thread → List Thread
@@ -182,6 +194,10 @@ asleepAt a m timed due r = withSleep true a m timed (storedDeadline timed due) r
 -- "The caller joins the end of the arrival list."
 unfoldable pub fallAsleep : (Thread → Thread) → ℕ → State → State
 fallAsleep f t s = withArrivals (arrivals s ++ (t ∷ [])) (withThreads (change f (t ∷ []) (s .threads)) s)
+
+-- "Log kind 5 sets it"
+unfoldable pub setPriority : ℕ → ℕ → State → State
+setPriority n t s = withThreads (change (withPriority n) (t ∷ []) (s .threads)) s
 
 -- one word of a process written
 unfoldable pub writeWord : ℕ → ℕ → ℕ → World → World

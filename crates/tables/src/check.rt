@@ -3,8 +3,9 @@ ghost use mathlib.Core.Path.{_≡_};
 ghost use mathlib.Core.Bool.{_&&_, Bool·beq};
 ghost use Rattle.lists.specs.Lists.{everyBelow};
 ghost use Rattle.tables.specs.Sizes.{threads};
-ghost use Rattle.tables.specs.Tables.{threadOf, recordOk, recordsOk, tablesOk};
+ghost use Rattle.tables.specs.Tables.{threadOf, sleepOk, recordOk, recordsOk, tablesOk};
 ghost use Rattle.tables.specs.Steps.{flagged};
+use crate::MAX_PRIORITY;
 use crate::PROCESS_BYTES;
 use crate::State;
 use crate::THREADS;
@@ -13,8 +14,8 @@ use crate::WORD_BYTES;
 use arrivals::seen_in;
 use arrivals::tail_ok;
 
-fn record_ok(t: Thread, now: u64) -> bool
-    ensures { λ r. ⌜ r ≡ recordOk now t ⌝ }
+fn sleep_ok(t: Thread, now: u64) -> bool
+    ensures { λ r. ⌜ r ≡ sleepOk now t ⌝ }
 {
     if t.waiting {
         let none = !t.timed & (t.deadline == 0);
@@ -23,6 +24,13 @@ fn record_ok(t: Thread, now: u64) -> bool
     } else {
         (t.uaddr == 0) & (t.bitset == 0) & !t.timed & (t.deadline == 0)
     }
+}
+
+fn record_ok(t: Thread, now: u64) -> bool
+    ensures { λ r. ⌜ r ≡ recordOk now t ⌝ }
+{
+    let sleep = sleep_ok(t, now);
+    sleep & (t.priority <= MAX_PRIORITY)
 }
 
 // The records keep their rules, and the marked threads are the waiting ones.

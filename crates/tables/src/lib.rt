@@ -5,7 +5,7 @@ ghost use Prim.Native.Nat.{_+_, _<_};
 ghost use lib.ListN.{take, drop};
 ghost use lib.Dec.{eqb};
 ghost use Rattle.tables.specs.Sizes.{processes, threads};
-ghost use Rattle.tables.specs.Tables.{freshThread, storedDeadline, withSleep, withLast, ended, movedTo, asleepAt, expired, sharesBit, sleepsAt, threadOf, fresh, change, withThreads, fallAsleep, tablesOk};
+ghost use Rattle.tables.specs.Tables.{freshThread, storedDeadline, withSleep, withLast, ended, movedTo, withPriority, asleepAt, expired, sharesBit, sleepsAt, threadOf, fresh, change, withThreads, fallAsleep, setPriority, tablesOk};
 ghost use Rattle.tables.specs.Steps.{changedBy, Numbers, Flags, flagged, endFirst, requeueFirst};
 
 pub mod check;
@@ -23,6 +23,9 @@ pub const WORD_BYTES: u32 = 4;
 // Every address of a process is below this, and a multiple of WORD_BYTES.
 pub const PROCESS_BYTES: u32 = WORD_BYTES * (State::WORDS_PER_PROCESS as u32);
 
+// The highest base priority of a thread.
+pub const MAX_PRIORITY: u8 = 31;
+
 // How a thread's last ended sleep was answered; no other value can be held.
 pub enum LastAnswer {
     NoneYet,
@@ -31,8 +34,8 @@ pub enum LastAnswer {
     Interrupted,
 }
 
-// A thread record: running or waiting; the word's address, the waiter's mask, whether it has a deadline and the deadline; and the answer
-// of its last ended sleep.
+// A thread record: running or waiting; the word's address, the waiter's mask, whether it has a deadline and the deadline; the answer of
+// its last ended sleep; and its base priority.
 pub struct Thread {
     pub waiting: bool,
     pub uaddr: u32,
@@ -40,6 +43,7 @@ pub struct Thread {
     pub timed: bool,
     pub deadline: u64,
     pub last: LastAnswer,
+    pub priority: u8,
 }
 
 // The tables: a clock in nanoseconds, a record for each thread, and the arrival list with its count.
@@ -74,6 +78,7 @@ impl Thread {
             timed: false,
             deadline: 0,
             last: LastAnswer::NoneYet,
+            priority: 0,
         }
     }
 
@@ -107,7 +112,15 @@ impl Thread {
             timed: self.timed,
             deadline: self.deadline,
             last: last,
+            priority: self.priority,
         }
+    }
+
+    fn with_priority(mut self, priority: u8) -> Self
+        ensures { λ r. ⌜ r ≡ withPriority priority self ⌝ }
+    {
+        self.priority = priority;
+        self
     }
 
     // The sleep is over, with this answer.
@@ -265,6 +278,17 @@ impl State {
         let n = self.count;
         self.list[n] = t as u8;
         self.count = n + 1;
+        self
+    }
+
+    // A thread, asleep or not, has another base priority.
+    pub fn set_priority(mut self, t: usize, priority: u8) -> Self
+        requires { ⌜ t < threads ⌝ }
+        ensures { λ r. ⌜ r ≡ setPriority priority t self ⌝ }
+    {
+        let old = self.threads[t];
+        let new = old.with_priority(priority);
+        self.threads[t] = new;
         self
     }
 

@@ -1,4 +1,5 @@
-// Verdicts: the table of answers, every refusal of a call, on the few numbers that it reads. It stands on commands and operations.
+// Verdicts: the table of answers, every refusal of a call and of a set priority, on the few numbers that it reads. It stands on commands
+// and operations.
 ghost use mathlib.Core.Path.{_≡_};
 ghost use mathlib.Core.Bool.{cond};
 ghost use Rattle.rules.specs.declared.answer.Errno.the-variants.{EINVAL};
@@ -6,6 +7,7 @@ ghost use Rattle.rules.specs.declared.answer.Verdict.the-variants.{Refuse};
 ghost use Rattle.rules.specs.Answers.{_because_, plain, byRows, first, reasonAmong};
 ghost use Rattle.rules.specs.Commands.{commandOf};
 ghost use Rattle.rules.specs.Calls.{noThread, badArgument, argumentRows, badAddress, differs, late, callRows};
+ghost use Rattle.rules.specs.Events.{priorityRows};
 use commands::deadline_of;
 use commands::not_implemented;
 use commands::second_cap;
@@ -17,6 +19,7 @@ use rules::answer::Reason;
 use rules::answer::Refusal;
 use rules::answer::Verdict;
 use rules::event::Call;
+use tables::MAX_PRIORITY;
 use tables::PROCESS_BYTES;
 use tables::PROCESSES;
 use tables::State;
@@ -148,4 +151,12 @@ pub fn verdict_on(c: Call, waits: bool, now: u64, word: u32) -> Verdict
     let v = row(Errno::ENOSYS, not_implemented(c.op), v);
     let v = row(Errno::EBUSY, waits, v);
     row(Errno::ESRCH, no_thread(c.process, c.index), v)
+}
+
+// The verdict on a priority that is to be set, memory and tables being sound.
+pub fn verdict_on_priority(process: u8, index: u8, priority: u8) -> Verdict
+    ensures { λ r. ⌜ r ≡ first (priorityRows process index priority) ⌝ }
+{
+    let v = invalid(Reason::PriorityHigh, MAX_PRIORITY < priority, Verdict::Pass);
+    row(Errno::ESRCH, no_thread(process, index), v)
 }

@@ -18,7 +18,7 @@ use Rattle.tables.specs.Sizes.{threadsPerProcess, memoryWords, wordLimit}
 use Rattle.tables.specs.Tables.{tablesOk, fresh}
 use Rattle.rules.specs.declared.event.Call.{Call}
 use Rattle.rules.specs.declared.event.Event.{Event}
-use Rattle.rules.specs.declared.event.Event.the-variants.{Call as CallEvent, Store, Clock, Interrupt, Query}
+use Rattle.rules.specs.declared.event.Event.the-variants.{Call as CallEvent, Store, Clock, Interrupt, Query, SetPriority}
 use Rattle.rules.specs.declared.answer.Errno.the-variants.{ENXIO, EBADF, ESRCH, EBUSY, ENOSYS, EINVAL, EFAULT, EAGAIN, ETIMEDOUT}
 use Rattle.rules.specs.declared.answer.Panel.{Panel}
 use Rattle.rules.specs.declared.answer.Answer.{Answer}
@@ -74,7 +74,7 @@ panel-unpacks p s = parts (cond (noProcess p || not (tablesOk s)) 0 (waitingSet 
     small : cond (noProcess p || not (tablesOk s)) 0 (waitingSet p s) < 2 ^ threadsPerProcess
     small = cases (noProcess p || not (tablesOk s)) (λ e. rw e (omega arith)) (λ e. rw e (bits-small threadsPerProcess _))
 
--- An event fits exactly if each argument does: 8 bits for process, index and flag, 64 for a timeout and a time, 32 for all else.
+-- An event fits exactly if each argument does: 8 bits for process, index, flag and priority, 64 for a timeout and a time, 32 for all else.
 pub call-fits-exactly : (c : Call)
     → EventFits (CallEvent c) ↔ ((c .process < 256) × (c .index < 256) × (c .op < 4294967296) × (c .uaddr < 4294967296) × (c .val < 4294967296)
     × (c .flag < 256) × (c .timeout < 18446744073709551616) × (c .uaddr2 < 4294967296) × (c .val3 < 4294967296))
@@ -83,12 +83,13 @@ call-fits-exactly c = (
   λ f. record { process = f .0; index = f .1; op = f .2; uaddr = f .3; val = f .4; flag = f .5; timeout = f .6; uaddr2 = f .7; val3 = f .8 },
 )
 
-pub fits-exactly : (p i a v now : ℕ)
+pub fits-exactly : (p i a v now n : ℕ)
     → (EventFits (Store p a v) ↔ ((p < 256) × (a < 4294967296) × (v < 4294967296)))
     × (EventFits (Clock now) ↔ (now < 18446744073709551616))
     × (EventFits (Interrupt p i) ↔ ((p < 256) × (i < 256)))
     × (EventFits (Query p) ↔ (p < 256))
-fits-exactly p i a v now = ((λ f. f, λ f. f), (λ f. f, λ f. f), (λ f. f, λ f. f), (λ f. f, λ f. f))
+    × (EventFits (SetPriority p i n) ↔ ((p < 256) × (i < 256) × (n < 256)))
+fits-exactly p i a v now n = ((λ f. f, λ f. f), (λ f. f, λ f. f), (λ f. f, λ f. f), (λ f. f, λ f. f), (λ f. f, λ f. f))
 
 -- What an entry point ensures leaves nothing open: the number and every byte that it may change are fixed by the event and the bytes that came.
 pub call-fixed : {c : Call} {b m l b1 m1 t1 b2 m2 t2 : List ℕ} {r s : ℤ} → Calls c b m l r b1 m1 t1 → Calls c b m l s b2 m2 t2
@@ -118,7 +119,7 @@ laid-over report lent = (
   (λ h. ap (λ l. l ++ drop (length report) lent) (take-all (length lent) report h)),
 )
 
--- vradomil_fresh: 1,296 bytes become those of the fresh tables, and the answer is 0; bytes of another length stay, and the answer is -9.
+-- vradomil_fresh: 1,360 bytes become those of the fresh tables, and the answer is 0; bytes of another length stay, and the answer is -9.
 pub fresh-laid : {b after : List ℕ} {r : ℤ} → Initialised b r after
     → (length b ≡ tablesSize → (r ≡ pos 0) × (after ≡ tablesBytes fresh)) × ((length b ≡ tablesSize → ⊥) → (r ≡ negℤ (pos 9)) × (after ≡ b))
 fresh-laid {b} {after} {r} f = (λ e. laid true (eq-eqb (length b) tablesSize e), λ e. laid false (ne-eqb (length b) tablesSize e))

@@ -9,7 +9,7 @@ use lib.Dec.{eqb}
 use Rattle.tables.specs.declared.State.{State}
 use Rattle.rules.specs.declared.event.Call.{Call}
 use Rattle.rules.specs.declared.event.Event.{Event}
-use Rattle.rules.specs.declared.event.Event.the-variants.{Call as CallEvent, Store, Clock, Interrupt, Query}
+use Rattle.rules.specs.declared.event.Event.the-variants.{Call as CallEvent, Store, Clock, Interrupt, Query, SetPriority}
 use Rattle.rules.specs.declared.answer.Answer.{Answer}
 use Rattle.rules.specs.declared.answer.Answer.the-variants.{Asleep, Count, Refused, Waiting}
 use Rattle.rules.specs.declared.answer.Verdict.{Verdict}
@@ -85,6 +85,7 @@ EventFits (Store p a v) = (p < byteLimit) × (a < wordLimit) × (v < wordLimit)
 EventFits (Clock now) = now < timeLimit
 EventFits (Interrupt p i) = (p < byteLimit) × (i < byteLimit)
 EventFits (Query p) = p < byteLimit
+EventFits (SetPriority p i n) = (p < byteLimit) × (i < byteLimit) × (n < byteLimit)
 
 -- What the entry points ensure: the number, every byte that they may change, the bytes `lent` for a report among them, and, since no other
 -- event can be passed to them, that the event's arguments fit their types. One that is lent no bytes for a report ensures it of none.

@@ -1,4 +1,4 @@
-// Other events: stores, clock events, interrupts and panel queries; and fresh tables.
+// Other events: stores, clock events, interrupts, panel queries and set priorities; and fresh tables.
 ghost use mathlib.Core.Path.{_≡_};
 ghost use mathlib.Core.Bool.{cond, _&&_};
 ghost use mathlib.Core.List.{[]};
@@ -6,7 +6,7 @@ ghost use Prim.Native.Nat.{_<_};
 ghost use lib.ListN.{length};
 ghost use lib.Dec.{leb, ltb};
 ghost use Rattle.tables.specs.Sizes.{processes, noEntry};
-ghost use Rattle.rules.specs.declared.event.Event.the-variants.{Store, Clock, Interrupt};
+ghost use Rattle.rules.specs.declared.event.Event.the-variants.{Store, Clock, Interrupt, SetPriority};
 ghost use Rattle.rules.specs.Events.{waitingSet};
 ghost use Rattle.layout.specs.Layout.{stateAt, tablesSize, listAt, waitingAt};
 ghost use Rattle.vradomil.specs.Host.{ChangesWords, ChangesTables, Shows, Initialised};
@@ -14,6 +14,7 @@ use crate::answer::refusal;
 use crate::buffers::judge_buffers;
 use changes::end_first;
 use changes::end_found;
+use changes::set_priority;
 use commands::thread_index;
 use commands::word_index;
 use effects::only_if;
@@ -39,6 +40,7 @@ use tables::WORD_BYTES;
 use verdicts::invalid;
 use verdicts::no_thread;
 use verdicts::row;
+use verdicts::verdict_on_priority;
 
 // A store: one word is written, and nobody wakes.
 #[no_mangle]
@@ -120,6 +122,40 @@ pub extern "C" fn vradomil_interrupt(tables: &mut [u8], words: &[u8], process: u
             flags[t] = true;
             let n = end_first(tables, flags, 1, LastAnswer::Interrupted);
             n as i32
+        }
+    }
+}
+
+// A thread, asleep or not, gets another base priority.
+#[no_mangle]
+pub extern "C" fn vradomil_set_priority(
+    tables: &mut [u8],
+    words: &[u8],
+    process: u8,
+    index: u8,
+    priority: u8,
+) -> i32
+    ensures { λ r. ⌜ ChangesTables (SetPriority process index priority) (now (tables .entry)) (now (words .entry)) [] r (now (tables .exit)) [] ⌝ }
+{
+    let v = judge_buffers(tables, words);
+    match v {
+        Verdict::Refuse(x) => {
+            let e = x.errno;
+            refusal(e)
+        }
+        Verdict::Pass => {
+            let v = verdict_on_priority(process, index, priority);
+            match v {
+                Verdict::Refuse(x) => {
+                    let e = x.errno;
+                    refusal(e)
+                }
+                Verdict::Pass => {
+                    let t = thread_index(process, index);
+                    set_priority(tables, t, priority);
+                    0
+                }
+            }
         }
     }
 }

@@ -2,7 +2,7 @@
 ghost use mathlib.Core.Path.{_≡_};
 ghost use mathlib.Core.Bool.{cond};
 ghost use mathlib.Core.List.{_∷_, []};
-ghost use Rattle.rules.specs.declared.event.Event.the-variants.{Store, Clock, Interrupt};
+ghost use Rattle.rules.specs.declared.event.Event.the-variants.{Store, Clock, Interrupt, SetPriority};
 ghost use Rattle.rules.specs.declared.answer.Reason.the-variants.{NoReason};
 ghost use Rattle.rules.specs.Answers.{reasonNumber, isMinus22, reasonAmong};
 ghost use Rattle.rules.specs.Commands.{commandOf};
@@ -11,6 +11,7 @@ ghost use Rattle.vradomil.specs.Host.{laidOver, Calls, ChangesWords, Cha
 use crate::call::vradomil_call;
 use crate::event::vradomil_clock;
 use crate::event::vradomil_interrupt;
+use crate::event::vradomil_set_priority;
 use crate::event::vradomil_store;
 use rules::answer::Reason;
 use rules::event::Call;
@@ -142,5 +143,23 @@ pub extern "C" fn vradomil_interrupt_report(
 {
     let number = vradomil_interrupt(tables, words, process, index);
     put_report(report, Reason::NoReason);
+    number
+}
+
+// A priority that is set, with its report.
+#[no_mangle]
+pub extern "C" fn vradomil_set_priority_report(
+    tables: &mut [u8],
+    words: &[u8],
+    process: u8,
+    index: u8,
+    priority: u8,
+    report: &mut [u8],
+) -> i32
+    ensures { λ r. ⌜ ChangesTables (SetPriority process index priority) (now (tables .entry)) (now (words .entry)) (now (report .entry)) r (now (tables .exit)) (now (report .exit)) ⌝ }
+{
+    let number = vradomil_set_priority(tables, words, process, index, priority);
+    let reason = reason_of(number, Reason::PriorityHigh);
+    put_report(report, reason);
     number
 }

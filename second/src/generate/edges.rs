@@ -1,11 +1,12 @@
 //! The edge script: the twelve cases of document 01, its edge numbers, every
 //! refusal and the order between them, the slips it names, and the reasons, the
-//! signed WAKE_OP, the full list and the search of document 02.
+//! signed WAKE_OP, the full list, the search and the priorities of document 02.
 
 mod arguments;
 mod broken;
 mod full;
 mod operations;
+mod priorities;
 mod reasons;
 mod refusals;
 mod searches;
@@ -30,6 +31,7 @@ pub fn script() -> Vec<u8> {
     slips::add(&mut script);
     reasons::add(&mut script);
     searches::add(&mut script);
+    priorities::add(&mut script);
     script.bytes
 }
 
@@ -37,6 +39,7 @@ pub fn script() -> Vec<u8> {
 pub fn faults() -> Vec<u8> {
     let mut script = Script::default();
     refusals::add(&mut script, u32::MAX);
+    refusals::add_priorities(&mut script);
     script.bytes
 }
 
@@ -86,15 +89,27 @@ pub fn each_by(who: Who) -> Vec<Event> {
     ]
 }
 
+/// The same, and a priority for the caller and for a thread of another process.
+pub fn each_kind_by(who: Who) -> Vec<Event> {
+    let mut events = each_by(who);
+    events.extend([s::set_priority(who, 31), s::set_priority((7 - who.0, who.1), 1)]);
+    events
+}
+
 /// Three sleepers at 8 and one at 16 in process 0, and one at 8 in process 1,
 /// that no call of process 0 may touch.
 fn sleepers(script: &mut Script) {
     script.fresh();
-    script.events(&[
+    script.events(&their_waits());
+}
+
+/// How these go to sleep.
+fn their_waits() -> [Event; 5] {
+    [
         s::wait((0, 0), 8, 0),
         s::wait((1, 0), 8, 0),
         s::wait((0, 1), 16, 0),
         s::wait_until((0, 2), 8, 0, 6, 1000),
         s::wait_for((0, 3), 8, 0, 2000),
-    ]);
+    ]
 }

@@ -3,8 +3,8 @@
 //! tables and words are looked at, so that many waits truly sleep.
 
 use crate::model::{
-    Call, Event, State, CMP_REQUEUE, FIRST_BAD_ADDRESS, PROCESSES, REQUEUE, THREADS_PER_PROCESS,
-    WAIT, WAIT_BITSET, WAKE, WAKE_BITSET, WAKE_OP, WORDS_PER_PROCESS,
+    Call, Event, State, CMP_REQUEUE, FIRST_BAD_ADDRESS, HIGHEST_PRIORITY, PROCESSES, REQUEUE,
+    THREADS_PER_PROCESS, WAIT, WAIT_BITSET, WAKE, WAKE_BITSET, WAKE_OP, WORDS_PER_PROCESS,
 };
 use crate::rng::Rng;
 use crate::shorthand as s;
@@ -46,6 +46,8 @@ pub const EDGE_ADDRESSES: &[u32] = &[
     u32::MAX,
 ];
 pub const MASKS: &[u32] = &[1, 2, 3, 4, 6, 1 << 31, u32::MAX];
+/// Both ends of what there is, and beyond it, with good ones in the low five bits.
+pub const EDGE_PRIORITIES: &[u8] = &[0, 1, 30, 31, 32, 33, 63, 64, 127, 128, 254, 255];
 pub const COMMANDS: &[u32] = &[WAIT, WAIT_BITSET, WAKE, WAKE_BITSET, REQUEUE, CMP_REQUEUE, WAKE_OP];
 /// Words by the numbers that WAKE_OP takes them for: both ends, and both sides
 /// of what a cmparg can be.
@@ -55,6 +57,15 @@ const EDGE_CMPARGS: &[i32] = &[-2048, -2, -1, 0, 1, 2, 3, 2047];
 
 /// The next event of a history that has come to these tables and words.
 pub fn next(rng: &mut Rng, state: &State, words: &[u32]) -> Event {
+    if rng.percent(8) {
+        return s::set_priority((process(rng), index(rng)), priority(rng));
+    }
+    next_but_priorities(rng, state, words)
+}
+
+/// The same of all other kinds, for logs that are to stay as they were before
+/// there were priorities.
+pub fn next_but_priorities(rng: &mut Rng, state: &State, words: &[u32]) -> Event {
     match rng.below(100) {
         0..=71 => Event::Call(call(rng, state, words)),
         72..=79 => {
@@ -81,6 +92,19 @@ fn index(rng: &mut Rng) -> u8 {
     } else {
         rng.pick(&[8, 9, 255])
     }
+}
+
+/// Mostly one that can be set.
+fn priority(rng: &mut Rng) -> u8 {
+    if rng.percent(75) {
+        any_priority(rng)
+    } else {
+        rng.pick(EDGE_PRIORITIES)
+    }
+}
+
+pub fn any_priority(rng: &mut Rng) -> u8 {
+    rng.below(1 + u64::from(HIGHEST_PRIORITY)) as u8
 }
 
 pub fn address(rng: &mut Rng) -> u32 {

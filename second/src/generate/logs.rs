@@ -1,5 +1,7 @@
 //! Logs, whole and damaged.
 
+mod priorities;
+
 use std::io::{self, Write};
 
 use super::events;
@@ -9,9 +11,16 @@ use crate::replay::PIECE;
 use crate::rng::Rng;
 use crate::shorthand as s;
 
+/// How the next event of a log is drawn.
+type Draw = fn(&mut Rng, &State, &[u32]) -> Event;
+
 /// A whole log of `count` events.
 pub fn whole(rng: &mut Rng, count: u64) -> Vec<u8> {
-    let mut history = History::fresh();
+    whole_of(events::next, rng, count)
+}
+
+fn whole_of(draw: Draw, rng: &mut Rng, count: u64) -> Vec<u8> {
+    let mut history = History::fresh(draw);
     let mut bytes = Vec::new();
     for _ in 0..count {
         history.log_next(rng, &mut bytes, |_, _, _| true);
@@ -22,7 +31,7 @@ pub fn whole(rng: &mut Rng, count: u64) -> Vec<u8> {
 /// Writes a whole log as it is made: the records that begin before byte
 /// `length`.
 pub fn write_long(rng: &mut Rng, length: u64, out: &mut impl Write) -> io::Result<()> {
-    let mut history = History::fresh();
+    let mut history = History::fresh(events::next);
     let mut record = Vec::new();
     let mut written = 0;
     while written < length {
@@ -46,13 +55,14 @@ fn keeps_busy(rng: &mut Rng, state: &State, event: &Event) -> bool {
 
 /// The tables and words that a log in the making has come to.
 struct History {
+    draw: Draw,
     state: State,
     words: Vec<u32>,
 }
 
 impl History {
-    fn fresh() -> History {
-        History { state: State::fresh(), words: vec![0; WORDS] }
+    fn fresh(draw: Draw) -> History {
+        History { draw, state: State::fresh(), words: vec![0; WORDS] }
     }
 
     /// Draws the next event and adds its record. A query and a flag above 1
@@ -65,7 +75,7 @@ impl History {
         wanted: impl Fn(&mut Rng, &State, &Event) -> bool,
     ) {
         loop {
-            let event = events::next(rng, &self.state, &self.words);
+            let event = (self.draw)(rng, &self.state, &self.words);
             if wanted(rng, &self.state, &event) && append(&event, bytes) {
                 model::step_sound(&mut self.state, &mut self.words, &event);
                 return;
@@ -86,19 +96,23 @@ fn append(event: &Event, bytes: &mut Vec<u8>) -> bool {
 /// A log of fewer than `limit` events with one damage: cut somewhere, a bad kind
 /// or a bad flag somewhere, any byte changed, or junk at its end.
 pub fn damaged(rng: &mut Rng, limit: u64) -> Vec<u8> {
+    damaged_of(events::next, rng, limit)
+}
+
+fn damaged_of(draw: Draw, rng: &mut Rng, limit: u64) -> Vec<u8> {
     let count = rng.below(limit);
-    let mut bytes = whole(rng, count);
+    let mut bytes = whole_of(draw, rng, count);
     match rng.below(6) {
         0 => {
             let length = rng.below(bytes.len() as u64 + 1) as usize;
             bytes.truncate(length);
         }
-        1 => bytes.push(rng.pick(&[0, 5, 6, 81, 128, 254, 255])),
-        2 => bytes.extend(cut_record(rng)),
+        1 => bytes.push(rng.pick(&[0, 6, 7, 81, 128, 254, 255])),
+        2 => bytes.extend(cut_record(draw, rng)),
         3 => bytes.extend(bad_flag(rng)),
         4 => {
             bytes.extend(bad_flag(rng));
-            bytes.extend(whole(rng, 3));
+            bytes.extend(whole_of(draw, rng, 3));
         }
         _ => {
             if !bytes.is_empty() {
@@ -111,8 +125,8 @@ pub fn damaged(rng: &mut Rng, limit: u64) -> Vec<u8> {
 }
 
 /// A record that lacks its end; a cut call may carry a bad flag besides.
-fn cut_record(rng: &mut Rng) -> Vec<u8> {
-    let mut record = if rng.percent(50) { bad_flag(rng) } else { whole(rng, 1) };
+fn cut_record(draw: Draw, rng: &mut Rng) -> Vec<u8> {
+    let mut record = if rng.percent(50) { bad_flag(rng) } else { whole_of(draw, rng, 1) };
     let length = 1 + rng.below(record.len() as u64 - 1) as usize;
     record.truncate(length);
     record
@@ -146,6 +160,8 @@ pub fn story() -> Vec<u8> {
         s::clock(100),
         s::interrupt((0, 2)),
         s::wake((9, 0), 8, 1),
+        s::set_priority((3, 0), 31),
+        s::set_priority((3, 0), 32),
     ])
 }
 
@@ -157,13 +173,21 @@ fn of(events: &[Event]) -> Vec<u8> {
     bytes
 }
 
-/// The logs that a replay is tried on: every refusal at the first record and
-/// at a later one, cuts at every byte, logs around the end of a replay's first
-/// piece, and random logs, whole and damaged.
+/// The logs that a replay is tried on: the short one to read, those without priorities, then those with.
 pub fn edges() -> Vec<Vec<u8>> {
+    let mut logs = vec![story()];
+    logs.extend(without_priorities());
+    logs.extend(priorities::edges());
+    logs
+}
+
+/// Every refusal at the first record and at a later one, cuts at every byte, logs
+/// around the end of a replay's first piece, and random logs, whole and damaged.
+fn without_priorities() -> Vec<Vec<u8>> {
+    let draw = events::next_but_priorities;
     let wait = s::wait_for((0, 1), 8, 5, 7);
     let records = [wait, s::store(0, 8, 5), s::clock(9), s::interrupt((0, 1))];
-    let mut logs = vec![Vec::new(), story()];
+    let mut logs = vec![Vec::new()];
     logs.push(of(&[s::store(0, 8, 5), s::wait((0, 0), 8, 5), s::wake((0, 1), 8, 1)]));
     for before in [of(&[]), of(&[s::store(0, 8, 5), wait])] {
         for record in records.map(|event| of(&[event])) {
@@ -171,7 +195,7 @@ pub fn edges() -> Vec<Vec<u8>> {
                 logs.push([&before[..], &record[..length]].concat());
             }
         }
-        for kind in [0, 5, 81, 128, 255] {
+        for kind in [0, 6, 81, 128, 255] {
             logs.push([&before[..], &[kind]].concat());
             logs.push([&before[..], &[kind; LONGEST]].concat());
         }
@@ -183,9 +207,9 @@ pub fn edges() -> Vec<Vec<u8>> {
         }
     }
     logs.extend(around_a_piece());
-    logs.extend((0..20).map(|seed| whole(&mut Rng::new(seed), 200)));
+    logs.extend((0..20).map(|seed| whole_of(draw, &mut Rng::new(seed), 200)));
     // Few events, since scripts of cut logs cut all of these at every byte.
-    logs.extend((0..500).map(|seed| damaged(&mut Rng::new(seed), 12)));
+    logs.extend((0..500).map(|seed| damaged_of(draw, &mut Rng::new(seed), 12)));
     logs
 }
 
@@ -202,21 +226,22 @@ fn flagged(flag: u8) -> Vec<u8> {
 fn around_a_piece() -> Vec<Vec<u8>> {
     let call = flagged(1);
     let after = of(&[s::store(0, 4, 7), s::wake((0, 2), 8, 1)]);
+    let filler = |length| filler(events::next_but_priorities, length);
     vec![
         filler(PIECE - 1),
         filler(PIECE),
         filler(PIECE + 1),
         [&filler(PIECE - 13)[..], &call, &after].concat(),
         [&filler(PIECE - 20)[..], &call[..31]].concat(),
-        [&filler(PIECE)[..], &[5], &after].concat(),
+        [&filler(PIECE)[..], &[6], &after].concat(),
     ]
 }
 
 /// A whole log of just so many bytes: a random one, and at its end stores of 10
 /// bytes and interrupts of 3, which fit any length.
-fn filler(length: usize) -> Vec<u8> {
+fn filler(draw: Draw, length: usize) -> Vec<u8> {
     let mut rng = Rng::new(length as u64);
-    let mut history = History::fresh();
+    let mut history = History::fresh(draw);
     let mut bytes = Vec::new();
     while length - bytes.len() >= 2 * LONGEST {
         history.log_next(&mut rng, &mut bytes, |_, _, _| true);

@@ -31,8 +31,7 @@ impl<W: Write> Maker<'_, W> {
 
     fn event(&mut self) -> io::Result<()> {
         let (state, words) = (&self.machine.state, &self.machine.memory[..WORDS]);
-        // Here and not among the events of `next`, of which logs are made, too:
-        // these are to stay as they are.
+        // Here and not among the events of `next`: logs need no more of these.
         let one_word = self.rng.percent(4);
         let event = one_word.then(|| searches::one_word(&mut self.rng, state, words)).flatten();
         let event = event.unwrap_or_else(|| events::next(&mut self.rng, state, words));
@@ -72,12 +71,8 @@ impl<W: Write> Maker<'_, W> {
     }
 
     fn start_broken(&mut self) -> io::Result<u64> {
-        let lists = tables::LIST_BREAKS.len();
-        let which = self.rng.below((lists + tables::RECORD_BREAKS.len()) as u64) as usize;
-        let breaks = match tables::LIST_BREAKS.get(which) {
-            Some(&breaks) => breaks,
-            None => tables::RECORD_BREAKS[which - lists],
-        };
+        let all = [tables::LIST_BREAKS, tables::RECORD_BREAKS, tables::PRIORITY_BREAKS].concat();
+        let breaks = self.rng.pick(&all);
         // Some sound tables have no room for this break; the base always has.
         let state = tables::sound(&mut self.rng);
         let state =

@@ -1,6 +1,6 @@
 //! Sound tables at random, and each single table rule broken in turn.
 
-use super::events::{EDGE_U64, GOOD_ADDRESSES, MASKS};
+use super::events::{any_priority, EDGE_U64, GOOD_ADDRESSES, MASKS};
 use crate::model::{State, Thread, NO_ENTRY, NO_SLEEP_ENDED, THREADS};
 use crate::rng::Rng;
 use crate::script::{self, Record};
@@ -26,6 +26,7 @@ pub fn with_sleepers(rng: &mut Rng, sleepers: usize) -> State {
     };
     for thread in &mut state.threads {
         thread.last = rng.below(4) as u8;
+        thread.priority = any_priority(rng);
     }
     for number in shuffled(rng).into_iter().take(sleepers) {
         let uaddr = if rng.percent(80) { rng.pick(&[0, 4, 8]) } else { rng.pick(GOOD_ADDRESSES) };
@@ -122,11 +123,11 @@ pub const LIST_BREAKS: &[Break] = &[
     |s, _, _| s.list[62] = 0,
 ];
 
-/// The rules of the records, but for the last answer.
+/// The rules of the records, but for the last answer and the priority.
 pub const RECORD_BREAKS: &[Break] = &[
     // Waiting, but not listed; listed, but not waiting.
     |s, _, running| s.threads[running] = waiter(4, 1, None),
-    |s, sleeper, _| s.threads[sleeper] = Thread::running(NO_SLEEP_ENDED),
+    |s, sleeper, _| s.threads[sleeper] = Thread::running(NO_SLEEP_ENDED, 0),
     |s, sleeper, _| s.threads[sleeper].waiting = false,
     |s, _, running| s.threads[running].waiting = true,
     // A running record without its zeros.
@@ -164,6 +165,21 @@ pub const LAST_BREAKS: &[Break] = &[
     |s, sleeper, _| s.threads[sleeper].last = 4,
     |s, _, running| s.threads[running].last = 4,
     |s, _, running| s.threads[running].last = 255,
+];
+
+/// Priorities that are too high, of a thread that waits and of one that runs. With
+/// one bit too many they look good where only the low five are looked at.
+pub const PRIORITY_BREAKS: &[Break] = &[
+    |s, sleeper, _| s.threads[sleeper].priority = 32,
+    |s, _, running| s.threads[running].priority = 32,
+    |s, sleeper, _| s.threads[sleeper].priority = 255,
+    |s, _, running| s.threads[running].priority = 255,
+    |s, sleeper, _| s.threads[sleeper].priority |= 32,
+    |s, _, running| s.threads[running].priority |= 32,
+    |s, sleeper, _| s.threads[sleeper].priority |= 64,
+    |s, _, running| s.threads[running].priority |= 64,
+    |s, sleeper, _| s.threads[sleeper].priority |= 128,
+    |s, _, running| s.threads[running].priority |= 128,
 ];
 
 /// What makes a list of 63 say 64 or more although a thread runs.
@@ -224,7 +240,8 @@ fn append(state: &mut State, entry: u8) {
 fn waiter(uaddr: u32, bitset: u32, deadline: Option<u64>) -> Thread {
     let timed = deadline.is_some();
     let deadline = deadline.unwrap_or(0);
-    Thread { waiting: true, uaddr, bitset, timed, deadline, last: NO_SLEEP_ENDED }
+    let last = NO_SLEEP_ENDED;
+    Thread { waiting: true, uaddr, bitset, timed, deadline, last, priority: 0 }
 }
 
 fn set_deadline(state: &mut State, number: usize, timed: bool, deadline: u64) {
@@ -264,6 +281,7 @@ pub fn pokes(state: &State) -> Vec<Record> {
         poke(script::TIMED, number, thread.timed as u64, 0);
         poke(script::DEADLINE, number, thread.deadline, 0);
         poke(script::LAST, number, thread.last as u64, 0);
+        poke(script::PRIORITY, number, thread.priority as u64, 0);
     }
     records
 }

@@ -1,7 +1,7 @@
 //! The tables: the clock, 64 thread records and the arrival list, the rules
 //! they keep, and the few ways in which sleepers come, go and move.
 
-use super::{FIRST_BAD_ADDRESS, THREADS, THREADS_PER_PROCESS};
+use super::{FIRST_BAD_ADDRESS, HIGHEST_PRIORITY, THREADS, THREADS_PER_PROCESS};
 
 /// What stands in the arrival list where no thread does.
 pub const NO_ENTRY: u8 = 255;
@@ -22,21 +22,28 @@ pub struct Thread {
     pub timed: bool,
     pub deadline: u64,
     pub last: u8,
+    /// Kept through every sleep; only its own event changes it.
+    pub priority: u8,
 }
 
 impl Thread {
     /// A running record: zeros for all that only a waiter has.
-    pub const fn running(last: u8) -> Thread {
-        Thread { waiting: false, uaddr: 0, bitset: 0, timed: false, deadline: 0, last }
+    pub const fn running(last: u8, priority: u8) -> Thread {
+        Thread { waiting: false, uaddr: 0, bitset: 0, timed: false, deadline: 0, last, priority }
+    }
+
+    /// Ends a sleep. Of the record the priority alone is kept.
+    fn end(&mut self, last: u8) {
+        *self = Thread::running(last, self.priority);
     }
 
     /// The table rules that speak of one record alone.
     fn rules_hold(&self, clock: u64) -> bool {
-        if self.last > INTERRUPTED {
+        if self.last > INTERRUPTED || self.priority > HIGHEST_PRIORITY {
             return false;
         }
         if !self.waiting {
-            return *self == Thread::running(self.last);
+            return *self == Thread::running(self.last, self.priority);
         }
         let deadline_good = if self.timed { self.deadline > clock } else { self.deadline == 0 };
         self.uaddr % 4 == 0 && self.uaddr < FIRST_BAD_ADDRESS && self.bitset != 0 && deadline_good
@@ -85,11 +92,11 @@ pub struct State {
 }
 
 impl State {
-    /// Clock 0, all running, no sleep ended yet, list empty.
+    /// Clock 0, all running, no sleep ended yet, priorities 0, list empty.
     pub const fn fresh() -> State {
         State {
             clock: 0,
-            threads: [Thread::running(NO_SLEEP_ENDED); THREADS],
+            threads: [Thread::running(NO_SLEEP_ENDED, 0); THREADS],
             list: [NO_ENTRY; THREADS],
             count: 0,
         }
@@ -120,9 +127,10 @@ impl State {
     }
 
     /// Puts a thread to sleep at the end of the arrival list. The deadline is
-    /// none or above the clock; the last answer stays until this sleep ends.
+    /// none or above the clock; the last answer stays until this sleep ends, and
+    /// the priority stays.
     pub fn join(&mut self, number: usize, uaddr: u32, bitset: u32, deadline: Option<u64>) {
-        let last = self.threads[number].last;
+        let Thread { last, priority, .. } = self.threads[number];
         self.threads[number] = Thread {
             waiting: true,
             uaddr,
@@ -130,6 +138,7 @@ impl State {
             timed: deadline.is_some(),
             deadline: deadline.unwrap_or(0),
             last,
+            priority,
         };
         self.list[self.count as usize] = number as u8;
         self.count += 1;
@@ -150,7 +159,7 @@ impl State {
         for &entry in &self.list[..self.count as usize] {
             let number = entry as usize;
             if ended < cap && chosen(number, &self.threads[number]) {
-                self.threads[number] = Thread::running(last);
+                self.threads[number].end(last);
                 ended += 1;
             } else {
                 kept[kept_count] = entry;
@@ -165,11 +174,11 @@ impl State {
     /// Lets threads run that a wake or a requeue has taken off the list.
     pub fn wake(&mut self, taken: &Row) {
         for &entry in taken.entries() {
-            self.threads[entry as usize] = Thread::running(WOKEN);
+            self.threads[entry as usize].end(WOKEN);
         }
     }
 
-    /// Gives sleepers another word; mask and deadline are kept.
+    /// Gives sleepers another word; all else in their records is kept.
     pub fn set_address(&mut self, moved: &Row, address: u32) {
         for &entry in moved.entries() {
             self.threads[entry as usize].uaddr = address;

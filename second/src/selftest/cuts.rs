@@ -39,6 +39,8 @@ fn sums(checks: &mut Checks) {
     checks.equal("interrupt", sum(&[s::interrupt((1, 2))]), (4 << 14) ^ (1 << 7) ^ 2);
     checks.equal("store", sum(&[s::store(1, 2, 3)]), (2 << 21) ^ (1 << 14) ^ (2 << 7) ^ 3);
     checks.equal("clock", sum(&[s::clock(u64::MAX)]), !(3 << 7));
+    let set = s::set_priority((1, 2), 3);
+    checks.equal("set priority", sum(&[set]), (5 << 21) ^ (1 << 14) ^ (2 << 7) ^ 3);
     checks.equal(
         "turned",
         sum(&[s::clock(1 << 63), s::clock(0)]),
@@ -55,7 +57,8 @@ fn sum_of_record(record: &[u8]) -> u64 {
         1 => &[1, 1, 1, 4, 4, 4, 1, 8, 4, 4],
         2 => &[1, 1, 4, 4],
         3 => &[1, 8],
-        _ => &[1, 1, 1],
+        4 => &[1, 1, 1],
+        _ => &[1, 1, 1, 1],
     };
     let (mut sum, mut rest) = (0u64, record);
     for &width in widths {

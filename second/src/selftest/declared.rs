@@ -1,8 +1,9 @@
-//! The rules of document 01 and requests (i), (ii) and (v) of document 02 said
-//! once more, in another way: refusals as the table of answers, reasons as a set,
-//! effects as sets of threads taken from queues, WAKE_OP's signed numbers by
-//! moving their bits, looks as the length of a prefix. It builds whole new tables
-//! and words, to be compared with what `step` left behind.
+//! The rules of document 01 and requests (i), (ii), (v) and (vi) of document 02
+//! said once more, in another way: refusals as the table of answers, reasons as a
+//! set, effects as sets of threads taken from queues, WAKE_OP's signed numbers by
+//! moving their bits, looks as the length of a prefix, a priority as what no sleep
+//! and no waking names. It builds whole new tables and words, to be compared with
+//! what `step` left behind.
 
 use std::collections::BTreeSet;
 
@@ -37,6 +38,12 @@ pub fn outcome(state: &State, words: &[u32], event: &Event) -> Outcome {
             let target = 8 * process as usize + index as usize;
             let ended: Vec<usize> = queue(state).into_iter().filter(|&t| t == target).collect();
             end(&mut after, &ended, 3)
+        }
+        Event::SetPriority { process, index, priority } => {
+            let named = |t: usize| t / 8 == process as usize && t % 8 == index as usize;
+            let threads = after.threads.iter_mut().enumerate();
+            threads.filter(|(t, _)| named(*t)).for_each(|(_, thread)| thread.priority = priority);
+            Answer::Number(0)
         }
         Event::Query { .. } => unreachable!(),
     };
@@ -122,11 +129,11 @@ fn sound(state: &State) -> bool {
 }
 
 fn sound_record(thread: &Thread, clock: u64) -> bool {
-    let Thread { waiting, uaddr, bitset, timed, deadline, last } = *thread;
+    let Thread { waiting, uaddr, bitset, timed, deadline, last, priority } = *thread;
     let zeros = (uaddr, bitset, timed, deadline) == (0, 0, false, 0);
     let aligned = (0..4096).step_by(4).any(|address| address == uaddr);
     let ahead = (!timed && deadline == 0) || (timed && deadline > clock);
-    last < 4 && if waiting { aligned && bitset > 0 && ahead } else { zeros }
+    last < 4 && priority < 32 && if waiting { aligned && bitset > 0 && ahead } else { zeros }
 }
 
 /// The first row that applies. Later rows are asked only if no earlier one
@@ -145,6 +152,8 @@ fn refusal(state: &State, words: &[u32], event: &Event) -> Option<i32> {
         Event::Store { address, .. } if address > 4092 => Some(-14),
         Event::Clock { time } if time < state.clock => Some(-22),
         Event::Interrupt { process, index } if process > 7 || index > 7 => Some(-3),
+        Event::SetPriority { process, index, .. } if process > 7 || index > 7 => Some(-3),
+        Event::SetPriority { priority, .. } if priority >> 5 != 0 => Some(-22),
         _ => None,
     }
 }
@@ -185,9 +194,10 @@ fn lowest_reason(event: &Event) -> u8 {
             .copied()
             .filter(|&reason| looks_wrong(call, reason))
             .collect(),
-        // These two have one argument rule each.
+        // These three have one argument rule each.
         Event::Store { .. } => BTreeSet::from([4]),
         Event::Clock { .. } => BTreeSet::from([7]),
+        Event::SetPriority { .. } => BTreeSet::from([8]),
         _ => BTreeSet::new(),
     };
     applying.first().copied().unwrap_or(0)
@@ -228,7 +238,10 @@ fn deadline(state: &State, call: &Call) -> Option<u128> {
 /// Takes threads off the list and lets them run with a last answer.
 fn end(after: &mut State, ended: &[usize], last: u8) -> Answer {
     for &t in ended {
-        after.threads[t] = Thread::running(last);
+        let thread = &mut after.threads[t];
+        (thread.waiting, thread.last) = (false, last);
+        (thread.uaddr, thread.bitset) = (0, 0);
+        (thread.timed, thread.deadline) = (false, 0);
     }
     let left: Vec<usize> = queue(after).into_iter().filter(|t| !ended.contains(t)).collect();
     set_list(after, &left);

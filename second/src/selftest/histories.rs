@@ -46,6 +46,7 @@ fn struck(event: &Event, process: u8) -> bool {
         Event::Call(call) => call.process != process,
         Event::Store { process: named, .. } => named != process,
         Event::Interrupt { process: named, .. } => named != process,
+        Event::SetPriority { process: named, .. } => named != process,
         Event::Query { process: named } => named != process,
         Event::Clock { .. } => false,
     }
@@ -123,7 +124,7 @@ fn frequent(checks: &mut Checks) {
     let mut rng = Rng::new(99);
     let mut display = Display::fresh();
     let mut seen = BTreeMap::new();
-    let mut reasons = [0; 8];
+    let mut reasons = [0; 9];
     for round in 0..20000 {
         if round % 500 == 0 {
             display.state = tables::sound(&mut rng);

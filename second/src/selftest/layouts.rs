@@ -21,7 +21,10 @@ fn places(checks: &mut Checks) {
     state.count = 0x1817161514131211;
     state.list[1] = 42;
     let (uaddr, bitset, deadline) = (0x24232221, 0x34333231, 0x4847464544434241);
-    state.threads[63] = Thread { waiting: true, uaddr, bitset, timed: true, deadline, last: 3 };
+    let (last, priority) = (3, 0x51);
+    state.threads[63] =
+        Thread { waiting: true, uaddr, bitset, timed: true, deadline, last, priority };
+    state.threads[0].priority = 31;
     let bytes = layout::encode(&state);
     checks.equal("clock", &bytes[0..8], &[1, 2, 3, 4, 5, 6, 7, 8]);
     checks.equal("count", bytes[8..16].first(), Some(&0x11));
@@ -31,7 +34,9 @@ fn places(checks: &mut Checks) {
     checks.equal("last", &bytes[270..273], &[0, 3, 0]);
     checks.equal("uaddr", &bytes[524..529], &[0x21, 0x22, 0x23, 0x24, 0]);
     checks.equal("bitset", &bytes[780..785], &[0x31, 0x32, 0x33, 0x34, 0]);
-    checks.equal("deadline", &bytes[1288..], &[0x41, 0x42, 0x43, 0x44, 0x45, 0x46, 0x47, 0x48]);
+    checks.equal("deadline", &bytes[1288..1296], &[0x41, 0x42, 0x43, 0x44, 0x45, 0x46, 0x47, 0x48]);
+    checks.equal("first priority", &bytes[1296..1298], &[31, 0]);
+    checks.equal("last priority", &bytes[1358..], &[0, 0x51]);
     let mut words = vec![0; WORD_BYTES];
     let mut fresh = layout::encode(&State::fresh());
     checks.equal("store", layout::store(&mut fresh, &mut words, 7, 4092, 0x04030201), 0);
@@ -43,7 +48,8 @@ fn round_trips(checks: &mut Checks) {
     for round in 0..500 {
         let mut state = tables::sound(&mut rng);
         if round % 2 == 0 {
-            let breaks = rng.pick(tables::RECORD_BREAKS);
+            let breaks = [tables::RECORD_BREAKS, tables::PRIORITY_BREAKS].concat();
+            let breaks = rng.pick(&breaks);
             state = tables::broken(state, breaks).unwrap_or_else(tables::base);
         }
         let bytes = layout::encode(&state);
@@ -58,12 +64,15 @@ fn round_trips(checks: &mut Checks) {
 /// The words' length is tested before the tables'.
 fn lengths(checks: &mut Checks) {
     let fresh = layout::encode(&State::fresh());
-    for length in [0, 1, TABLE_BYTES - 1, TABLE_BYTES + 1] {
+    // 1,296 bytes were tables before there were priorities.
+    for length in [0, 1, 1296, TABLE_BYTES - 1, TABLE_BYTES + 1] {
         let mut tables = vec![0; length];
         let mut words = vec![0; WORD_BYTES];
         checks.equal("tables' length", layout::clock(&mut tables, &mut words, 0), -9);
         checks.equal("query", layout::query(&tables, 0), (0, 0, 8));
         checks.equal("words first", layout::clock(&mut tables, &mut words[1..], 0), -6);
+        let priority = layout::set_priority(&mut tables, &mut words, 8, 8, 32);
+        checks.equal("tables' length", priority, -9);
     }
     for length in [0, WORD_BYTES - 4, WORD_BYTES - 1, WORD_BYTES + 1, WORD_BYTES + 4] {
         let mut tables = fresh.to_vec();
@@ -76,8 +85,9 @@ fn lengths(checks: &mut Checks) {
 /// A byte that stands for nothing breaks the tables and stays where it is.
 fn strange_bytes(checks: &mut Checks) {
     let fresh = layout::encode(&tables::base());
-    for (place, byte) in [(80, 2), (100, 2), (143, 255), (144, 2), (207, 128), (208, 4), (271, 255)]
-    {
+    let flags = [(80, 2), (100, 2), (143, 255), (144, 2), (207, 128), (208, 4), (271, 255)];
+    // A high priority stands for something, but breaks a rule.
+    for (place, byte) in flags.into_iter().chain([(1296, 32), (1297, 255), (1359, 64)]) {
         let mut tables = fresh;
         tables[place] = byte;
         let before = tables;
@@ -114,6 +124,9 @@ fn on_bytes(tables: &mut [u8], words: &mut [u8], event: &Event) -> Answer {
         }
         Event::Clock { time } => layout::clock(tables, words, time),
         Event::Interrupt { process, index } => layout::interrupt(tables, words, process, index),
+        Event::SetPriority { process, index, priority } => {
+            layout::set_priority(tables, words, process, index, priority)
+        }
         Event::Query { process } => {
             let (bits, count, lowest) = layout::query(tables, process);
             return Answer::Panel(bits, count, lowest);

@@ -29,11 +29,12 @@ pub fn record(event: &Event) -> Vec<u8> {
 
 fn reading(checks: &mut Checks) {
     checks.equal("no bytes", read(&[]), (Read::End, 0));
-    for kind in (0..=255).filter(|kind| !(1..=4).contains(kind)) {
+    for kind in (0..=255).filter(|kind| !(1..=5).contains(kind)) {
         checks.equal("bad kind", read(&[kind]), (Read::Refused(-71), 0));
     }
-    let events = [flagged(1), s::store(1, 2, 3), s::clock(4), s::interrupt((5, 6))];
-    for (event, length) in events.into_iter().zip([32, 10, 9, 3]) {
+    let set = s::set_priority((7, 8), 9);
+    let events = [flagged(1), s::store(1, 2, 3), s::clock(4), s::interrupt((5, 6)), set];
+    for (event, length) in events.into_iter().zip([32, 10, 9, 3, 4]) {
         let bytes = record(&event);
         checks.equal("length", bytes.len(), length);
         checks.equal("read", read(&bytes), (Read::Event(event), length));
@@ -49,7 +50,13 @@ fn reading(checks: &mut Checks) {
 }
 
 fn writing(checks: &mut Checks) {
-    for (event, length) in [(flagged(0), 32), (s::store(9, 9, 9), 10), (s::clock(9), 9)] {
+    for (event, length) in [
+        (flagged(0), 32),
+        (s::store(9, 9, 9), 10),
+        (s::clock(9), 9),
+        (s::interrupt((9, 9)), 3),
+        (s::set_priority((9, 9), 99), 4),
+    ] {
         let mut room = vec![7; length + 2];
         checks.equal("room", log::write(&event, &mut room), length as i32);
         checks.equal("nothing past it", &room[length..], &[7, 7]);
@@ -84,10 +91,16 @@ fn round_trips(checks: &mut Checks) {
     let bytes = logs::whole(&mut rng, 500);
     let mut cursor = Cursor { bytes: &bytes, place: 0 };
     let mut copy = Vec::new();
+    let mut kinds = [0; 6];
     while let Read::Event(event) = cursor.read() {
-        copy.extend(record(&event));
+        let record = record(&event);
+        kinds[record[0] as usize] += 1;
+        copy.extend(record);
     }
     checks.holds("read, written", copy == bytes);
+    for (kind, times) in kinds.into_iter().enumerate().skip(1) {
+        checks.holds(&format!("kind {kind} is frequent, {times}"), times >= 10);
+    }
 }
 
 /// A damaged log prints one line for each good record and then its refusal.

@@ -73,7 +73,7 @@ fn awake(state: &State) -> usize {
 /// sleepers.
 fn histories(checks: &mut Checks) {
     let mut lot = Lot::default();
-    for seed in 0..140 {
+    for seed in 0..154 {
         let mut rng = Rng::new(seed ^ 0x1212);
         let mut display = match seed % 7 {
             0 => Display::fresh(),
@@ -111,13 +111,13 @@ fn next(rng: &mut Rng, display: &Display) -> Event {
 fn nearly_full(checks: &mut Checks) {
     let mut rng = Rng::new(12);
     let mut lot = Lot::default();
-    for round in 0..20 {
+    for round in 0..40 {
         let sleepers = 60 + round % 5;
         let state = tables::with_sleepers(&mut rng, sleepers);
         checks.holds("nearly full, sound", state.rules_hold());
         checks.equal("nearly full, count", state.count, sleepers as u64);
         for number in 0..THREADS {
-            for event in edges::each_by(thread(number)) {
+            for event in edges::each_kind_by(thread(number)) {
                 lot.apply(&mut on(&state), event);
             }
             let waits = state.threads[number].waiting;
@@ -142,7 +142,7 @@ fn overfull(checks: &mut Checks) {
         for state in tables::overfull(running) {
             checks.holds("overfull", state.count >= 64 && !state.threads[running].waiting);
             let mut display = on(&state);
-            for event in edges::each_by(thread(running)) {
+            for event in edges::each_kind_by(thread(running)) {
                 let query = matches!(event, Event::Query { .. });
                 let want = if query { Answer::Panel(0, 0, 8) } else { Answer::Number(-9) };
                 checks.equal("overfull, answer", lot.apply(&mut display, event), want);
@@ -164,7 +164,7 @@ fn damaged(checks: &mut Checks) {
         // Of 63 the one that is awake, of 64 the one that the damage wakes.
         let callers = [awake(&state), rng.below(64) as usize];
         for caller in callers.map(thread) {
-            for event in edges::each_by(caller) {
+            for event in edges::each_kind_by(caller) {
                 lot.apply(&mut on(&state), event);
             }
         }

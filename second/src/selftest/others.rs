@@ -21,7 +21,7 @@ fn fresh(checks: &mut Checks) {
     let state = State::fresh();
     checks.equal("fresh clock and count", (state.clock, state.count), (0, 0));
     checks.holds("fresh list", state.list.iter().all(|&entry| entry == NO_ENTRY));
-    checks.holds("fresh threads", state.threads.iter().all(|t| *t == Thread::running(0)));
+    checks.holds("fresh threads", state.threads.iter().all(|t| *t == Thread::running(0, 0)));
     checks.holds("fresh is sound", state.rules_hold());
 }
 
@@ -30,7 +30,17 @@ fn fresh(checks: &mut Checks) {
 fn broken_rules(checks: &mut Checks) {
     checks.holds("base is sound", tables::base().rules_hold());
     let mut rng = Rng::new(1);
-    let breaks = [tables::LIST_BREAKS, tables::RECORD_BREAKS, tables::LAST_BREAKS].concat();
+    let breaks =
+        [tables::LIST_BREAKS, tables::RECORD_BREAKS, tables::LAST_BREAKS, tables::PRIORITY_BREAKS]
+            .concat();
+    let events = [
+        s::store(8, 1, 1),
+        s::clock(0),
+        s::interrupt((8, 8)),
+        s::set_priority((8, 8), 32),
+        s::set_priority((0, 0), 31),
+        s::wait((8, 8), 1, 1),
+    ];
     for round in 0..100 {
         let sound = if round == 0 { tables::base() } else { tables::sound(&mut rng) };
         checks.holds("sound", sound.rules_hold());
@@ -40,9 +50,7 @@ fn broken_rules(checks: &mut Checks) {
             };
             checks.holds(&format!("break {which}"), !state.rules_hold());
             let mut display = Display { state: state.clone(), words: vec![0; WORDS] };
-            for event in
-                [s::store(8, 1, 1), s::clock(0), s::interrupt((8, 8)), s::wait((8, 8), 1, 1)]
-            {
+            for event in events {
                 checks.equal("broken", display.text(event), "-9".into());
             }
             checks.equal("broken", display.text(s::query(0)), "0 0 8".into());
@@ -88,7 +96,7 @@ fn interrupts(checks: &mut Checks) {
     {
         checks.equal("interrupt", display.text(s::interrupt(who)), want.into());
     }
-    checks.equal("interrupted", display.state.threads[0], Thread::running(INTERRUPTED));
+    checks.equal("interrupted", display.state.threads[0], Thread::running(INTERRUPTED, 0));
     checks.equal("the other", display.listed(), vec![8]);
 }
 
@@ -108,7 +116,14 @@ fn memory_lengths(checks: &mut Checks) {
         let mut state = State::fresh();
         state.count = 65;
         let mut display = Display { state, words: vec![0; length] };
-        for event in [s::wait((9, 9), 1, 1), s::store(9, 1, 1), s::clock(0), s::interrupt((9, 9))] {
+        let set_priority = s::set_priority((9, 9), 32);
+        for event in [
+            s::wait((9, 9), 1, 1),
+            s::store(9, 1, 1),
+            s::clock(0),
+            s::interrupt((9, 9)),
+            set_priority,
+        ] {
             checks.equal("memory length", display.text(event), "-6".into());
         }
     }

@@ -161,7 +161,7 @@ fn strings(alphabet: &[u8], length: usize) -> Vec<Vec<u8>> {
 /// Of the states with few held bytes over a small alphabet, those that strings
 /// leave are taken and all others are refused.
 fn short_strings(checks: &mut Checks) {
-    let alphabet = [0, 1, 2, 4, 5];
+    let alphabet = [0, 1, 2, 4, 5, 6];
     let mut left = HashSet::new();
     for string in strings(&alphabet, 4) {
         let mut reader = Reader::start();
@@ -170,9 +170,9 @@ fn short_strings(checks: &mut Checks) {
         reader.over();
         left.insert(reader);
     }
-    // Start, three ends; one held byte of three good kinds, two of three, and
-    // three or four of the kinds that need more.
-    checks.equal("states left", left.len(), 4 + 3 + 3 * 5 + 2 * 25 + 2 * 125);
+    // Start, three ends; one held byte of four good kinds, two of four, three of
+    // the kinds that need more, four of those that need still more.
+    checks.equal("states left", left.len(), 4 + 4 + 4 * 6 + 3 * 36 + 2 * 216);
     let ends = [None, Some(Ended::Clean), Some(Ended::Unreadable), Some(Ended::Cut)];
     for held in strings(&alphabet, 5).iter().filter(|string| string.len() == 5) {
         for count in [0, 1, 2, 3, 4, 32, 255] {
@@ -201,7 +201,9 @@ fn refused(mut reader: Reader) -> bool {
 /// Every kind with every count, and one byte changed behind the held ones.
 fn every_count(checks: &mut Checks) {
     let store = s::store(9, u32::MAX, 7);
-    let events = [flagged(1), flagged(255), store, s::clock(u64::MAX), s::interrupt((9, 9))];
+    let clock = s::clock(u64::MAX);
+    let set = s::set_priority((9, 9), 99);
+    let events = [flagged(1), flagged(255), store, clock, s::interrupt((9, 9)), set];
     for record in events.iter().map(record) {
         for count in 0..record.len() {
             let mut reader = Reader::start();
@@ -222,7 +224,7 @@ fn every_count(checks: &mut Checks) {
             checks.holds("too many held", refused(reader));
         }
     }
-    for kind in (0..=255).filter(|kind| !(1..=4).contains(kind)) {
+    for kind in (0..=255).filter(|kind| !(1..=5).contains(kind)) {
         checks.holds("bad kind held", refused(holding(&[kind])));
     }
 }

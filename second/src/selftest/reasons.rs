@@ -201,7 +201,7 @@ fn other_rows(checks: &mut Checks) {
     );
     let mut display = Display::fresh();
     display.state.list[63] = 0;
-    let events = [Event::Call(call), s::store(0, 1, 1), s::clock(0)];
+    let events = [Event::Call(call), s::store(0, 1, 1), s::clock(0), s::set_priority((0, 0), 32)];
     for event in events {
         checks.equal("broken tables", display.report(event).to_string(), "-9".into());
     }
@@ -228,6 +228,10 @@ fn other_events(checks: &mut Checks) {
             (s::clock(99), "1"),
             (s::interrupt((0, 0)), "1"),
             (s::interrupt((0, 9)), "-3"),
+            (s::set_priority((0, 0), 31), "0"),
+            (s::set_priority((0, 0), 32), "-22 reason 8"),
+            (s::set_priority((7, 7), 255), "-22 reason 8"),
+            (s::set_priority((0, 9), 32), "-3"),
             (s::query(0), "3 2 0"),
             (s::query(9), "0 0 8"),
         ],

@@ -31,7 +31,9 @@ fn printed(bytes: &[u8]) -> String {
 fn printing(checks: &mut Checks) {
     let mut script = Script::default();
     script.events(&[s::store(0, 8, 5), s::wait_for((0, 1), 8, 5, 9), s::store(0, 9, 5)]);
-    script.event(s::query(0));
+    script.events(&[s::query(0), s::set_priority((0, 1), 31), s::set_priority((7, 7), 32)]);
+    script.events(&[s::set_priority((7, 6), 1), s::set_priority((7, 6), 0)]);
+    script.event(s::set_priority((7, 7), 2));
     script.word(0, 8);
     script.word(8, 0);
     script.word(255, u32::MAX);
@@ -39,9 +41,10 @@ fn printing(checks: &mut Checks) {
     script.event(s::clock(1));
     script.dump();
     let list = "list 0:1";
-    let thread = "thread 1 1 8 4294967295 1 9 0";
-    let want =
-        format!("0\nasleep\n-22 reason 4\n2 1 1\n5\n0\n0\n-6\nclock 0 count 1\n{list}\n{thread}\n");
+    let threads = "thread 1 1 8 4294967295 1 9 0 31\nthread 63 0 0 0 0 0 0 2";
+    let sets = "0\n-22 reason 8\n0\n0\n0";
+    let events = format!("0\nasleep\n-22 reason 4\n2 1 1\n{sets}\n5\n0\n0\n-6");
+    let want = format!("{events}\nclock 0 count 1\n{list}\n{threads}\n");
     checks.equal("printing", printed(&script.bytes), want);
     checks.equal("empty script", printed(&[]), String::new());
 }
@@ -55,7 +58,15 @@ fn bad_scripts(checks: &mut Checks) {
     {
         checks.equal("cut script", printed(&script.bytes[..cut]), want.into());
     }
-    checks.equal("unknown kind", printed(&[b'F', 0]), "bad script\n".into());
+    for kind in [0, 6, 255] {
+        checks.equal("unknown kind", printed(&[b'F', kind]), "bad script\n".into());
+    }
+    checks.equal("cut kind 5", printed(&[5, 0, 0]), "bad script\n".into());
+    for (field, want) in [(9, ""), (10, "bad script\n"), (255, "bad script\n")] {
+        let mut script = Script::default();
+        script.add(Record::Poke { field, index: 0, value: 0 });
+        checks.equal("field", printed(&script.bytes), want.into());
+    }
     script.lend(MEMORY + 1);
     checks.equal("too much memory", printed(&script.bytes), "0\nbad script\n".into());
 }
@@ -86,7 +97,7 @@ fn pokes(checks: &mut Checks) {
         let record = Record::Poke { field, index, value };
         checks.holds("poke", machine.apply(&record, &mut std::io::sink()).is_ok());
     };
-    for field in 0..=8 {
+    for field in 0..=9 {
         poke(field, 66, u64::MAX);
     }
     let (state, thread) = (&machine.state, machine.state.threads[2]);
@@ -95,6 +106,7 @@ fn pokes(checks: &mut Checks) {
     checks.equal("flags", (thread.waiting, thread.timed, thread.last), (true, true, 3));
     checks.equal("numbers", (thread.uaddr, thread.bitset), (u32::MAX, u32::MAX));
     checks.equal("deadline", thread.deadline, u64::MAX);
+    checks.equal("priority", thread.priority, 255);
 }
 
 /// Runs a made script: it is read to its end, is written back the same, and

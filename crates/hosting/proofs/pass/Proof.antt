@@ -51,6 +51,15 @@ vradomil-query-requires c κs = search needs
 cast-result-5 : tie.Need-cast-result-5
 cast-result-5 c = search needs
 
+enum-known-e-6 : tie.Need-enum-known-e-6
+enum-known-e-6 c = search needs
+
+vradomil-set-priority-requires : tie.Need-vradomil-set-priority-requires
+vradomil-set-priority-requires c κs = search needs
+
+cast-result-6 : tie.Need-cast-result-6
+cast-result-6 c = wide (c .before .before .vradomil-set-priority .result) (c .before .before .vradomil-set-priority .ok)
+
 same-length : tie.Need-same-length
 same-length c = search needs
 
@@ -102,6 +111,17 @@ same-length-9 c = search needs
 returns-5 : tie.Need-returns-5
 returns-5 c = of-event (c .before .before .before .e5 .given .1) (toZ-pos w64 (search needs)) (by-query (c .vradomil-query .ensures))
 
+same-length-10 : tie.Need-same-length-10
+same-length-10 c = search needs
+
+same-length-11 : tie.Need-same-length-11
+same-length-11 c = search needs
+
+returns-6 : tie.Need-returns-6
+returns-6 c =
+    let v = c .before .before in
+    of-event (v .before .before .before .before .e6 .given .1) (back (v .vradomil-set-priority .result) (v .vradomil-set-priority .ok)) (by-tables refl refl refl (v .vradomil-set-priority .ensures))
+
 pub pass-spec : {M : Type 1} → statement M
 pass-spec =
     tie.close
@@ -121,6 +141,9 @@ pass-spec =
     enum-known-e-5
     vradomil-query-requires
     cast-result-5
+    enum-known-e-6
+    vradomil-set-priority-requires
+    cast-result-6
     same-length
     same-length-2
     returns
@@ -134,4 +157,7 @@ pass-spec =
     same-length-8
     returns-4
     same-length-9
-    returns-5)
+    returns-5
+    same-length-10
+    same-length-11
+    returns-6)

@@ -51,6 +51,15 @@ vradomil-query-requires c κs = search needs
 cast-result-5 : tie.Need-cast-result-5
 cast-result-5 c = search needs
 
+enum-known-e-6 : tie.Need-enum-known-e-6
+enum-known-e-6 c = search needs
+
+vradomil-set-priority-report-requires : tie.Need-vradomil-set-priority-report-requires
+vradomil-set-priority-report-requires c κs = search needs
+
+cast-result-6 : tie.Need-cast-result-6
+cast-result-6 c = let v = c .before .before .before .before in wide (v .vradomil-set-priority-report .result) (v .vradomil-set-priority-report .ok)
+
 same-length : tie.Need-same-length
 same-length c = search needs
 
@@ -114,6 +123,20 @@ same-length-13 c = search needs
 returns-5 : tie.Need-returns-5
 returns-5 c = of-event (c .before .before .before .e5 .given .1) (toZ-pos w64 (search needs)) (by-query (c .vradomil-query .ensures))
 
+same-length-14 : tie.Need-same-length-14
+same-length-14 c = search needs
+
+same-length-15 : tie.Need-same-length-15
+same-length-15 c = search needs
+
+same-length-16 : tie.Need-same-length-16
+same-length-16 c = search needs
+
+returns-6 : tie.Need-returns-6
+returns-6 c =
+    let v = c .before .before .before .before in
+    of-event (v .before .before .before .before .before .e6 .given .1) (back (v .vradomil-set-priority-report .result) (v .vradomil-set-priority-report .ok)) (by-tables refl refl refl (v .vradomil-set-priority-report .ensures))
+
 pub pass-report-spec : {M : Type 1} → statement M
 pass-report-spec =
     tie.close
@@ -133,6 +156,9 @@ pass-report-spec =
     enum-known-e-5
     vradomil-query-requires
     cast-result-5
+    enum-known-e-6
+    vradomil-set-priority-report-requires
+    cast-result-6
     same-length
     same-length-2
     same-length-3
@@ -150,4 +176,8 @@ pass-report-spec =
     same-length-12
     returns-4
     same-length-13
-    returns-5)
+    returns-5
+    same-length-14
+    same-length-15
+    same-length-16
+    returns-6)

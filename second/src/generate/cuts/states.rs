@@ -42,7 +42,9 @@ fn records() -> Vec<Vec<u8>> {
         })
     };
     let store = s::store(3, 0x0403_0201, 0x1413_1211);
-    let events = [call(1), call(2), store, s::clock(0x1817_1615_1413_1211), s::interrupt((4, 5))];
+    let clock = s::clock(0x1817_1615_1413_1211);
+    let set_priority = s::set_priority((6, 7), 31);
+    let events = [call(1), call(2), store, clock, s::interrupt((4, 5)), set_priority];
     let record = |event| log::encode(event).map(|(bytes, length)| bytes[..length].to_vec());
     events.iter().filter_map(record).collect()
 }
@@ -142,7 +144,7 @@ impl<W: Write> Maker<'_, '_, W> {
             let mut reader = Reader { count: count as u8, ..Reader::start() };
             let used = if self.rng.percent(70) { count.min(HELD) } else { HELD };
             for byte in &mut reader.held[..used] {
-                *byte = self.rng.below(6) as u8;
+                *byte = self.rng.below(7) as u8;
             }
             if self.rng.percent(10) {
                 reader.ended =

@@ -31,6 +31,23 @@ pub fn add(script: &mut Script, most: u32) {
     }
 }
 
+/// The event that sets a priority with every set of its faults, of a sleeper and
+/// of a thread that runs: the memory, the tables, the process, the index, the
+/// priority.
+pub fn add_priorities(script: &mut Script) {
+    for faults in 0u32..1 << 5 {
+        let has = |bit: u32| faults & bit != 0;
+        prepare(script, faults & (MEMORY | TABLES));
+        let process = if has(NUMBERS) { 8 } else { 1 };
+        let priorities = if has(16) { [32, 255] } else { [31, 1] };
+        for (index, priority) in [0, 1].into_iter().zip(priorities) {
+            let index = if has(8) { 8 + index } else { index };
+            script.event(s::set_priority((process, index), priority));
+        }
+        script.dump();
+    }
+}
+
 /// The faults that a command can have.
 fn possible(op: u32) -> u32 {
     let all = MEMORY | TABLES | NUMBERS | BUSY | COMMAND | ARGUMENT | ADDRESS;

@@ -48,6 +48,12 @@ enum-known-e-5 c = search needs
 query-requires : tie.Need-query-requires
 query-requires c κs = search needs
 
+enum-known-e-6 : tie.Need-enum-known-e-6
+enum-known-e-6 c = search needs
+
+set-priority-requires : tie.Need-set-priority-requires
+set-priority-requires c κs = search needs
+
 same-length : tie.Need-same-length
 same-length c = search needs
 
@@ -79,6 +85,12 @@ returns-5 c =
     of-event (c .before .before .e5 .given .1)
     (follows-passed (Query _) (g .args .s) (g .args .words .now) Pass refl _ (g .args .words .now) refl (ap (λ p. record { answer = Waiting p; state = g .args .s }) (c .query .ensures)) refl)
 
+same-length-5 : tie.Need-same-length-5
+same-length-5 c = search needs
+
+returns-6 : tie.Need-returns-6
+returns-6 c = of-event (c .before .before .before .e6 .given .1) (c .set-priority .ensures)
+
 pub apply-spec : {M : Type 1} → statement M
 apply-spec =
     tie.close
@@ -93,6 +105,8 @@ apply-spec =
     interrupt-requires
     enum-known-e-5
     query-requires
+    enum-known-e-6
+    set-priority-requires
     same-length
     returns
     same-length-2
@@ -101,4 +115,6 @@ apply-spec =
     returns-3
     same-length-4
     returns-4
-    returns-5)
+    returns-5
+    same-length-5
+    returns-6)

@@ -40,6 +40,12 @@ add-last c = omega arith
 shared-slice-read-last : tie.Need-shared-slice-read-last Inv-loop μ-loop
 shared-slice-read-last c = omega arith
 
+add-priority : tie.Need-add-priority Inv-loop μ-loop
+add-priority c = omega arith
+
+shared-slice-read-priority : tie.Need-shared-slice-read-priority Inv-loop μ-loop
+shared-slice-read-priority c = omega arith
+
 array-read-ok : tie.Need-array-read-ok Inv-loop μ-loop
 array-read-ok c = omega arith
 
@@ -51,7 +57,7 @@ loop-less c = omega arith
 
 loop-again : tie.Need-loop-again Inv-loop μ-loop
 loop-again c =
-    let k = c .before .before .before .before in
+    let k = c .before .before .before .before .before in
     let g = k .before in
     tested-next threads (fits (now (g .args .b)) (g .args .t2)) (k .loop .ok) _ (k .loop .i) (k .loop .inv) (omega arith) refl
 
@@ -73,6 +79,8 @@ flags-ok-spec =
     shared-slice-read-timed
     add-last
     shared-slice-read-last
+    add-priority
+    shared-slice-read-priority
     array-read-ok
     add-i
     loop-less

@@ -50,8 +50,16 @@ add-u64-at c = search needs
 u64-at-requires : tie.Need-u64-at-requires
 u64-at-requires c κs = search needs
 
+add-priority : tie.Need-add-priority
+add-priority c = search needs
+
+shared-slice-read-priority : tie.Need-shared-slice-read-priority
+shared-slice-read-priority c = search needs
+
 returns : tie.Need-returns
-returns c = cc (c .u64-at .ensures .0, c .before .u32-at2 .ensures .0, c .before .before .u32-at .ensures .0, c .before .before .before .last-of .ensures)
+returns c =
+    let d = c .before in
+    cc (d .u64-at .ensures .0, d .before .u32-at2 .ensures .0, d .before .before .u32-at .ensures .0, d .before .before .before .last-of .ensures)
 
 pub thread-at-spec : {M : Type 1} → statement M
 thread-at-spec =
@@ -73,4 +81,6 @@ thread-at-spec =
     mul-u64-at
     add-u64-at
     u64-at-requires
+    add-priority
+    shared-slice-read-priority
     returns)

@@ -1,15 +1,14 @@
-use Rattle.lists.proofs.Tests.{by-test}
+use borrow.Author.Needs.{needs}
 use Rattle.tables.specs.Tables.{recordOk}
 use Rattle.tables.proofs.check.record_ok.Statement.{statement}
 use Rattle.tables.proofs.check.record_ok.Tie as tie
 
+sleep-ok-requires : tie.Need-sleep-ok-requires
+sleep-ok-requires c κs = search needs
+
 returns : tie.Need-returns
 unfolding recordOk
-returns c = rw (by-test, c .before .before .before .before .before .before .before .if1 .taken)
-
-returns-2 : tie.Need-returns-2
-unfolding recordOk
-returns-2 c = rw (c .before .before .before .before .if1 .left)
+returns c = rw (c .before .sleep-ok .ensures)
 
 pub record-ok-spec : {M : Type 1} → statement M
-record-ok-spec = tie.close (tie.spec returns returns-2)
+record-ok-spec = tie.close (tie.spec sleep-ok-requires returns)
