@@ -117,6 +117,26 @@ int32_t vradomil_interrupt_report(uint8_t *tables, size_t tables_len, const uint
     return f(&t, &w, process, index, &r);
 }
 
+int32_t vradomil_set_priority(uint8_t *tables, size_t tables_len, const uint8_t *words, size_t words_len, uint8_t process,
+                              uint8_t index, uint8_t priority)
+{
+    static int32_t (*f)(struct slice *, struct slice *, uint8_t, uint8_t, uint8_t);
+    if (!f)
+        f = find("vradomil::event::vradomil_set_priority");
+    struct slice t = {tables, tables_len}, w = {words, words_len};
+    return f(&t, &w, process, index, priority);
+}
+
+int32_t vradomil_set_priority_report(uint8_t *tables, size_t tables_len, const uint8_t *words, size_t words_len,
+                                     uint8_t process, uint8_t index, uint8_t priority, uint8_t *report, size_t report_len)
+{
+    static int32_t (*f)(struct slice *, struct slice *, uint8_t, uint8_t, uint8_t, struct slice *);
+    if (!f)
+        f = find("vradomil::report::vradomil_set_priority_report");
+    struct slice t = {tables, tables_len}, w = {words, words_len}, r = {report, report_len};
+    return f(&t, &w, process, index, priority, &r);
+}
+
 uint32_t vradomil_query(const uint8_t *tables, size_t tables_len, uint8_t process)
 {
     static uint32_t (*f)(struct slice *, uint8_t);
