@@ -97,10 +97,10 @@ pub priority-written : (n : ℕ) (r : Thread)
 priority-written n r = refl
 
 -- which event set it, of which thread, to what, and what it was answered.
-pub set-exactly : (e : Event) (w : World) (t : ℕ)
+pub priority-set-exactly : (e : Event) (w : World) (t : ℕ)
     → PrioritySet e w t
     ↔ ((p : ℕ) × (i : ℕ) × (n : ℕ) × (e ≡ SetPriority p i n) × (t ≡ threadNumber p i) × (step e w .answer ≡ Count 0) × (after e w t ≡ withPriority n (before w t)))
-set-exactly e w t = (
+priority-set-exactly e w t = (
   (λ s. (s .process, s .index, s .priority, s .event, s .thread, s .answer, s .left)),
   (λ s. record { process = s .0; index = s .1; priority = s .2; event = s .3; thread = s .4; answer = s .5; left = s .6 }),
 )

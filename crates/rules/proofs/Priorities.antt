@@ -1,6 +1,6 @@
 -- Priorities: nothing but an event that sets one, answered 0, changes a thread's.
 use mathlib.Core.Path.{_≡_, refl, sym, ap, _∙_}
-use mathlib.Core.Bool.{true, false, not, cond, _&&_, and-false}
+use mathlib.Core.Bool.{true, not, cond, and-false}
 use mathlib.Core.List.{List, [], _∷_}
 use mathlib.Core.Logic.{_⊎_, inl, inr, _↔_}
 use Prim.Native.Nat.{ℕ, _≤_, _<_}

@@ -56,9 +56,6 @@ ofCall f other (Interrupt p i) = other
 ofCall f other (Query p) = other
 ofCall f other (SetPriority p i n) = other
 
-abbrev pub isCall : Event → Bool
-isCall e = ofCall (λ c. true) false e
-
 -- What each event may be refused with, in order.
 unfoldable pub refusals : Event → World → List Row
 refusals e w = cond (isQuery e) [] (firstRows w ++ ownRows e w)

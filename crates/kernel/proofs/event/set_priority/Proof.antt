@@ -1,10 +1,10 @@
 use borrow.Author.Needs.{needs}
-use mathlib.Core.Path.{_≡_, refl, sym, ap, _∙_}
+use mathlib.Core.Path.{_≡_, refl, ap, _∙_}
 use mathlib.Core.Bool.{false}
 use Rattle.rules.specs.declared.event.Event.{Event}
 use Rattle.rules.specs.declared.event.Event.the-variants.{SetPriority}
 use Rattle.rules.specs.declared.answer.Answer.the-variants.{Count}
-use Rattle.tables.specs.Tables.{World, world, setPriority}
+use Rattle.tables.specs.Tables.{setPriority}
 use Rattle.rules.specs.Calls.{noThread}
 use Rattle.rules.specs.Events.{refusals, effect}
 use Rattle.commands.proofs.Places.{thread-below, thread-there}
