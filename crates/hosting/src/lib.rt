@@ -1,6 +1,8 @@
 // Hosting: what is proved of whole histories that a host in C runs through the library. It stands on vradomil.
 ghost use mathlib.Core.List.{[]};
+ghost use Rattle.vradomil.specs.Host.{Calls};
 ghost use Rattle.hosting.specs.Hosts.{Hosted};
+use rules::event::Call;
 use rules::event::Event;
 use vradomil::call::vradomil_call;
 use vradomil::event::vradomil_clock;
@@ -14,25 +16,51 @@ use vradomil::report::vradomil_interrupt_report;
 use vradomil::report::vradomil_set_priority_report;
 use vradomil::report::vradomil_store_report;
 
+// A call, as a host passes it.
+fn pass_call(tables: &mut [u8], words: &mut [u8], c: Call) -> i32
+    ensures { λ r. ⌜ Calls c (now (tables .entry)) (now (words .entry)) [] r (now (tables .exit)) (now (words .exit)) [] ⌝ }
+{
+    vradomil_call(
+        tables,
+        words,
+        c.process,
+        c.index,
+        c.op,
+        c.uaddr,
+        c.val,
+        c.flag,
+        c.timeout,
+        c.uaddr2,
+        c.val3,
+    )
+}
+
+fn pass_call_report(tables: &mut [u8], words: &mut [u8], c: Call, report: &mut [u8]) -> i32
+    ensures { λ r. ⌜ Calls c (now (tables .entry)) (now (words .entry)) (now (report .entry)) r (now (tables .exit)) (now (words .exit)) (now (report .exit)) ⌝ }
+{
+    vradomil_call_report(
+        tables,
+        words,
+        c.process,
+        c.index,
+        c.op,
+        c.uaddr,
+        c.val,
+        c.flag,
+        c.timeout,
+        c.uaddr2,
+        c.val3,
+        report,
+    )
+}
+
 // An event as a host passes it to its entry point. The theorems take for known of an event what this and pass_report ensure, and no more.
 pub fn pass(tables: &mut [u8], words: &mut [u8], e: Event) -> i64
     ensures { λ r. ⌜ Hosted e (now (tables .entry)) (now (words .entry)) [] r (now (tables .exit)) (now (words .exit)) [] ⌝ }
 {
     match e {
         Event::Call(c) => {
-            let r = vradomil_call(
-                tables,
-                words,
-                c.process,
-                c.index,
-                c.op,
-                c.uaddr,
-                c.val,
-                c.flag,
-                c.timeout,
-                c.uaddr2,
-                c.val3,
-            );
+            let r = pass_call(tables, words, c);
             r as i64
         }
         Event::Store {
@@ -72,20 +100,7 @@ pub fn pass_report(tables: &mut [u8], words: &mut [u8], e: Event, report: &mut [
 {
     match e {
         Event::Call(c) => {
-            let r = vradomil_call_report(
-                tables,
-                words,
-                c.process,
-                c.index,
-                c.op,
-                c.uaddr,
-                c.val,
-                c.flag,
-                c.timeout,
-                c.uaddr2,
-                c.val3,
-                report,
-            );
+            let r = pass_call_report(tables, words, c, report);
             r as i64
         }
         Event::Store {

@@ -9,11 +9,11 @@ use Rattle.hosting.proofs.pass.Tie as tie
 enum-known-e : tie.Need-enum-known-e
 enum-known-e c = search needs
 
-vradomil-call-requires : tie.Need-vradomil-call-requires
-vradomil-call-requires c κs = search needs
+pass-call-requires : tie.Need-pass-call-requires
+pass-call-requires c κs = search needs
 
 cast-result : tie.Need-cast-result
-cast-result c = wide (c .before .before .before .before .vradomil-call .result) (c .before .before .before .before .vradomil-call .ok)
+cast-result c = wide (c .before .before .before .before .pass-call .result) (c .before .before .before .before .pass-call .ok)
 
 enum-known-e-2 : tie.Need-enum-known-e-2
 enum-known-e-2 c = search needs
@@ -70,7 +70,7 @@ returns : tie.Need-returns
 returns c =
     let v = c .before .before .before .before in
     let k = v .before .before .before .before .e .given in
-    of-event (k .1) (back (v .vradomil-call .result) (v .vradomil-call .ok)) (by-call {c = k .0 .0} (v .vradomil-call .ensures))
+    of-event (k .1) (back (v .pass-call .result) (v .pass-call .ok)) (by-call {c = k .0 .0} (v .pass-call .ensures))
 
 same-length-3 : tie.Need-same-length-3
 same-length-3 c = search needs
@@ -127,7 +127,7 @@ pass-spec =
     tie.close
     (tie.spec
     enum-known-e
-    vradomil-call-requires
+    pass-call-requires
     cast-result
     enum-known-e-2
     vradomil-store-requires

@@ -9,11 +9,11 @@ use Rattle.hosting.proofs.pass_report.Tie as tie
 enum-known-e : tie.Need-enum-known-e
 enum-known-e c = search needs
 
-vradomil-call-report-requires : tie.Need-vradomil-call-report-requires
-vradomil-call-report-requires c κs = search needs
+pass-call-report-requires : tie.Need-pass-call-report-requires
+pass-call-report-requires c κs = search needs
 
 cast-result : tie.Need-cast-result
-cast-result c = let v = c .before .before .before .before .before .before in wide (v .vradomil-call-report .result) (v .vradomil-call-report .ok)
+cast-result c = let v = c .before .before .before .before .before .before in wide (v .pass-call-report .result) (v .pass-call-report .ok)
 
 enum-known-e-2 : tie.Need-enum-known-e-2
 enum-known-e-2 c = search needs
@@ -73,7 +73,7 @@ returns : tie.Need-returns
 returns c =
     let v = c .before .before .before .before .before .before in
     let k = v .before .before .before .before .before .e .given in
-    of-event (k .1) (back (v .vradomil-call-report .result) (v .vradomil-call-report .ok)) (by-call {c = k .0 .0} (v .vradomil-call-report .ensures))
+    of-event (k .1) (back (v .pass-call-report .result) (v .pass-call-report .ok)) (by-call {c = k .0 .0} (v .pass-call-report .ensures))
 
 same-length-4 : tie.Need-same-length-4
 same-length-4 c = search needs
@@ -142,7 +142,7 @@ pass-report-spec =
     tie.close
     (tie.spec
     enum-known-e
-    vradomil-call-report-requires
+    pass-call-report-requires
     cast-result
     enum-known-e-2
     vradomil-store-report-requires
