@@ -23,12 +23,13 @@ use Rattle.rules.specs.declared.event.Call.{Call}
 use Rattle.rules.specs.declared.event.Uses.{Uses}
 use Rattle.rules.specs.declared.answer.Answer.the-variants.{Count}
 use Rattle.tables.specs.Sizes.{threads}
+use Rattle.tables.specs.Editions.{present}
 use Rattle.tables.specs.Tables.{World, threadOf, arrivals, sharesBit, sleepsAt, wordAt, endSleeps, writeWord, world}
 use Rattle.tables.specs.Steps.{Flags, flagged, endFirst, requeueFirst}
 use Rattle.rules.specs.Answers.{answered}
 use Rattle.rules.specs.Commands.{commandOf, isUnknown, uses}
 use Rattle.rules.specs.WakeOp.{compares}
-use Rattle.rules.specs.Calls.{matches, secondCap, candidates, released, moved, releasedSecond, wait, wake, requeue, wakeOp, callEffect}
+use Rattle.rules.specs.Calls.{matches, secondCap, candidates, releasedIn, released, movedIn, releasedSecond, wait, wake, requeue, wakeOp, callEffect}
 use Rattle.tables.proofs.Changes.{arrivals-end, end-append}
 use Rattle.tables.proofs.Sound.{Sound, once}
 use Rattle.tables.proofs.Kept.{ending}
@@ -58,7 +59,7 @@ pub chosen : (c : Call) (a : ℕ) (s : State) → Sound s → (u : Uses) → u �
 chosen c a s g u is flags h =
     flagged-listed s g flags _ h
     ∙ ap (λ (v : Uses). filter (λ t. (not (v .mask) || sharesBit (c .val3) (threadOf s t)) && sleepsAt (c .process) a s t) (arrivals s)) is
-    ∙ sym (candidates-are (matches (commandOf (c .op)) c) (c .process) a s)
+    ∙ sym (candidates-are present (matches (commandOf (c .op)) c) (c .process) a s)
 
 module _ (k : Command) (c : Call) (s : State) (g : Sound s) (f : ℕ → Bool)
     (is : filter f (arrivals s) ≡ candidates (matches k c) (c .process) (c .uaddr) s) where
@@ -66,12 +67,12 @@ module _ (k : Command) (c : Call) (s : State) (g : Sound s) (f : ℕ → Bool)
   first = endFirst Woken f (c .val) s
 
   pub wakes : (words : List ℕ) → record { answer = Count (first .n); state = first .state } ≡ answered (wake k c (world s words))
-  unfolding wake released endFirst
+  unfolding wake releasedIn endFirst
   wakes words = cc (is)
 
   -- who is left at the word
   pub left : without (released k c s) (candidates (matches k c) (c .process) (c .uaddr) s) ≡ drop (c .val) (candidates (matches k c) (c .process) (c .uaddr) s)
-  unfolding released
+  unfolding releasedIn
   left =
       ap (λ l. without (take (c .val) l) l) (sym is)
       ∙ filter-comm (λ t. not (elem t (take (c .val) (filter f (arrivals s))))) f (arrivals s)
@@ -80,7 +81,7 @@ module _ (k : Command) (c : Call) (s : State) (g : Sound s) (f : ℕ → Bool)
       ∙ ap (drop (c .val)) is
 
   first-is : first ≡ record { state = endSleeps Woken (released k c s) s; n = length (released k c s) }
-  unfolding endFirst released
+  unfolding endFirst releasedIn
   first-is = cc (is)
 
   abbrev both : Requeued
@@ -88,7 +89,7 @@ module _ (k : Command) (c : Call) (s : State) (g : Sound s) (f : ℕ → Bool)
 
   pub requeues : (words : List ℕ)
       → record { answer = Count (both .released + cond (uses k .compare) (both .moved) 0); state = both .state } ≡ answered (requeue k c (world s words))
-  unfolding requeue released moved requeueFirst
+  unfolding requeue releasedIn movedIn requeueFirst
   requeues words = cc (is)
 
 or-only : (a b : Bool) → b ≡ true → (a || not b) ≡ true → a ≡ true
@@ -116,7 +117,7 @@ module _ (k : Command) (c : Call) (w : World) (g : Sound (w .state)) (f : ℕ �
 
   pub releases-once : (eqb (c .uaddr) (c .uaddr2) || not true-for) ≡ true
       → record { answer = Count (single .n); state = single .state } ≡ answered (wakeOp k c w)
-  unfolding wakeOp writeWord endFirst released
+  unfolding wakeOp writeWord endFirst releasedIn
   releases-once one =
       let all : take (c .val + cond true-for (secondCap c) 0) (filter f (arrivals (w .state))) ≡ released k c (w .state) ++ releasedSecond k c w =
       ap (take (c .val + cond true-for (secondCap c) 0)) is ∙ take-add (c .val) (cond true-for (secondCap c) 0) _ ∙ ap (released k c (w .state) ++_) (next-are one) in
@@ -143,7 +144,7 @@ module _ (k : Command) (c : Call) (w : World) (g : Sound (w .state)) (f h : ℕ 
   still : filter h (arrivals (endSleeps Woken (released k c (w .state)) (w .state)))
       ≡ without (released k c (w .state)) (candidates (matches k c) (c .process) (c .uaddr2) (w .state))
   still =
-      ap (filter h) (arrivals-end Woken (released k c (w .state)) (w .state))
+      ap (filter h) (arrivals-end present Woken (released k c (w .state)) (w .state))
       ∙ filter-comm h (λ t. not (elem t (released k c (w .state)))) (arrivals (w .state))
       ∙ ap (without (released k c (w .state))) is2
 
@@ -161,7 +162,7 @@ module _ (k : Command) (c : Call) (w : World) (g : Sound (w .state)) (f h : ℕ 
   releases-both =
       let n = ap (λ (t : Taken). t .n) one-is in
       let m = ap (λ (t : Taken). t .n) two-is in
-      let s = ap (λ (t : Taken). t .state) two-is ∙ end-append Woken (released k c (w .state)) (releasedSecond k c w) (w .state) in
+      let s = ap (λ (t : Taken). t .state) two-is ∙ end-append present Woken (released k c (w .state)) (releasedSecond k c w) (w .state) in
       λ i. record { answer = Count (n i + m i); state = s i }
 
 -- which command it is, by what it uses

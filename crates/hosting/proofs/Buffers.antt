@@ -23,7 +23,7 @@ use Rattle.rules.specs.declared.answer.Verdict.the-variants.{Refuse}
 use Rattle.rules.specs.declared.answer.Answer.the-variants.{Refused}
 use Rattle.rules.specs.Answers.{plain, Outcome, outcome, isRefused}
 use Rattle.rules.specs.Calls.{noProcess}
-use Rattle.rules.specs.Events.{isQuery, step, waitingSet, panelOf, panel}
+use Rattle.rules.specs.Events.{isQuery, step, waitingSet, panelOf, panelIn, panel}
 use Rattle.rules.specs.History.{final, answers}
 use Rattle.rules.proofs.ByEvent.{by-query}
 use Rattle.rules.proofs.Rows.{step-refused}
@@ -126,7 +126,7 @@ module _ {e : Event} {b m lent b1 m1 told : List ℕ} {r : ℤ} (h : Hosted e b 
   wrong-tables size other = refused-number e (record { refusal = plain EBADF; judged = refused-tables b m size (wrong-size b other) }) (not-query e some) h
 
 pub wrong-panel : (p : ℕ) (b : List ℕ) → (length b ≡ tablesSize → ⊥) → packed (panel p (tablesAt b)) ≡ packed (panelOf 0)
-unfolding panel
+unfolding panelIn
 wrong-panel p b other = ap (λ x. packed (panelOf (cond (noProcess p || not x) 0 (waitingSet p (tablesAt b))))) (wrong-size b other)
     ∙ cases (noProcess p) (λ e. rw e) (λ e. rw e)
 

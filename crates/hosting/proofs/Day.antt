@@ -4,16 +4,16 @@ use lib.ListN.{replicate}
 use lib.Count.{ones, trailingZeros}
 use Rattle.lists.specs.Lists.{everyBelow}
 use Rattle.tables.specs.Sizes.{memoryWords}
-use Rattle.tables.specs.Tables.{expiredSleepers, queue, tablesOk, recordOk, fresh, change, endSleeps, fallAsleep, setPriority, writeWord}
+use Rattle.tables.specs.Tables.{expiredSleepers, queueIn, tablesIn, recordOk, freshIn, change, endIn, sleepIn, setPriority, writeWord}
 use Rattle.rules.specs.Commands.{commandOf, notImplemented}
 use Rattle.rules.specs.WakeOp.{undefinedOp}
-use Rattle.rules.specs.Calls.{argumentRows, badAddress, callRows, candidates, released, wait, wake, callEffect}
-use Rattle.rules.specs.Events.{refusals, clockEffect, interruptEffect, effect, step, panel, waitingSet, bitsBelow}
+use Rattle.rules.specs.Calls.{argumentRows, badAddress, rowsIn, candidatesIn, releasedIn, wait, wake, callEffect}
+use Rattle.rules.specs.Events.{refusals, clockEffect, interruptEffect, effect, step, panelIn, waitingIn, bitsBelow}
 use Rattle.rules.specs.History.{start, answers}
 use Rattle.vradomil.specs.Host.{reportSize}
 use Rattle.hosting.specs.Hosts.{hearsAll}
 use Rattle.hosting.specs.Day.{day, dayHeard}
 
 pub day-heard : hearsAll (λ e. reportSize) day (answers day (start (replicate memoryWords 0))) ≡ dayHeard
-unfolding step refusals effect callRows callEffect wait wake released candidates queue argumentRows badAddress notImplemented commandOf undefinedOp tablesOk recordOk fresh change endSleeps fallAsleep setPriority writeWord expiredSleepers clockEffect interruptEffect everyBelow panel waitingSet bitsBelow ones trailingZeros
+unfolding step refusals effect rowsIn callEffect wait wake releasedIn candidatesIn queueIn argumentRows badAddress notImplemented commandOf undefinedOp tablesIn recordOk freshIn change endIn sleepIn setPriority writeWord expiredSleepers clockEffect interruptEffect everyBelow panelIn waitingIn bitsBelow ones trailingZeros
 day-heard = refl

@@ -18,7 +18,7 @@ use Rattle.rules.specs.declared.event.Call.{Call}
 use Rattle.rules.specs.declared.event.Event.{Event}
 use Rattle.rules.specs.declared.event.Event.the-variants.{Call as CallEvent, Store, Clock, Interrupt, Query, SetPriority}
 use Rattle.tables.specs.Sizes.{threads, wordBits, wordLimit, matchAny, wordBytes}
-use Rattle.tables.specs.Tables.{World, threadNumber, freshThread, ended, threadOf, asleepAt, endSleeps, moveSleeps, fallAsleep, setPriority, writeWord, wordAt}
+use Rattle.tables.specs.Tables.{World, threadNumber, freshThread, ended, threadOf, asleepAt, endIn, moveIn, sleepIn, setPriority, writeWord, wordAt}
 use Rattle.rules.specs.Commands.{commandOf, uses}
 use Rattle.rules.specs.Signed.{modulo}
 use Rattle.rules.specs.WakeOp.{opField, opArg, opCode, operand, operate, newWord}
@@ -105,7 +105,7 @@ set-fits ws i v f h j = cases (eqb j i)
 
 -- the clock and the words that an event leaves
 call-clock : (k : Command) (c : Call) (w : World) → callEffect k c w .world .state .clock ≡ w .state .clock
-unfolding wait wake requeue wakeOp fallAsleep endSleeps moveSleeps writeWord
+unfolding wait wake requeue wakeOp sleepIn endIn moveIn writeWord
 call-clock k c w = by-command (λ k f. f c w .world .state .clock ≡ w .state .clock) (λ k i. refl) (λ k. refl) (λ k. refl) refl refl k
 
 call-words : (k : Command) (c : Call) (w : World) → WordsFit (w .words) → WordsFit (callEffect k c w .world .words)
@@ -115,7 +115,7 @@ call-words k c w f =
     (set-fits (w .words) _ _ f (word-low (c .val3) (wordAt w (c .process) (c .uaddr2)) (f _))) f k
 
 effect-clock : (e : Event) (w : World) → EventFits e → w .state .clock < 256 ^ 8 → effect e w .world .state .clock < 256 ^ 8
-unfolding effect writeWord clockEffect interruptEffect endSleeps setPriority
+unfolding effect writeWord clockEffect interruptEffect endIn setPriority
 effect-clock (CallEvent c) w f h = rw (call-clock (commandOf (c .op)) c w) h
 effect-clock (Store p a v) w f h = h
 effect-clock (Clock now) w f h = f

@@ -12,7 +12,8 @@ use Rattle.lists.specs.LittleEndian.{Bytes}
 use Rattle.lists.proofs.Tests.{cases}
 use Rattle.lists.proofs.Filter.{getD-replicated}
 use Rattle.tables.specs.Sizes.{threads, memoryWords}
-use Rattle.tables.specs.Tables.{fresh, freshThread, threadOf}
+use Rattle.tables.specs.Editions.{present}
+use Rattle.tables.specs.Tables.{freshIn, fresh, freshThread, threadOf}
 use Rattle.rules.specs.History.{start}
 use Rattle.rules.proofs.Preserved.{start-valid}
 use Rattle.tables.proofs.Sound.{fresh-sound, sound-tables}
@@ -26,7 +27,7 @@ use Rattle.hosting.proofs.Hosting.{Stand, seen-is}
 use Rattle.hosting.proofs.Buffers.{Lent}
 
 fresh-fits : Fits fresh
-unfolding fresh
+unfolding freshIn
 fresh-fits =
     record {
       clock = omega arith;
@@ -35,7 +36,7 @@ fresh-fits =
     }
 
 pub fresh-seen : (m : List ℕ) → seen (tablesBytes fresh) m ≡ start (wordsAt m)
-fresh-seen m = λ j. record { state = tables-stand fresh (sound-tables fresh fresh-sound) fresh-fits j; words = wordsAt m }
+fresh-seen m = λ j. record { state = tables-stand fresh (sound-tables fresh (fresh-sound present)) fresh-fits j; words = wordsAt m }
 
 pub fresh-low : Bytes (tablesBytes fresh)
 fresh-low i = cases (ltb i tablesSize)

@@ -20,7 +20,7 @@ use Rattle.tables.specs.declared.Taken.{Taken}
 use Rattle.tables.specs.declared.LastAnswer.the-variants.{TimedOut, Interrupted}
 use Rattle.rules.specs.declared.answer.Answer.the-variants.{Count}
 use Rattle.tables.specs.Sizes.{processes, threadsPerProcess, threads}
-use Rattle.tables.specs.Tables.{world, World, threadOf, tablesOk, arrivals, expired, expiredSleepers, withClock, endSleeps}
+use Rattle.tables.specs.Tables.{world, World, threadOf, tablesOk, arrivals, expired, expiredSleepers, withClock, endIn, endSleeps}
 use Rattle.tables.specs.Steps.{Flags, flagged, endFirst}
 use Rattle.rules.specs.Answers.{answered}
 use Rattle.rules.specs.Events.{bitsBelow, waitingSet, clockEffect, interruptEffect}
@@ -33,7 +33,7 @@ pub clock-ends : (now : ℕ) (s : State) (ws : List ℕ) → Sound s → (f : �
     → (taken : Taken) → taken ≡ endFirst TimedOut f threads s
     → record { answer = Count (taken .n); state = withClock now (taken .state) }
     ≡ answered (clockEffect now (world s ws))
-unfolding clockEffect endFirst endSleeps
+unfolding clockEffect endFirst endIn
 clock-ends now s ws g f due taken is =
     let all : take threads (filter f (arrivals s)) ≡ expiredSleepers now s =
     take-all threads (filter f (arrivals s)) (omega (arith, length-filter f (arrivals s), arrivals-fit s g)) ∙ due in

@@ -15,7 +15,8 @@ use Rattle.lists.proofs.Count.{everyBelow-ext, everyBelow-and}
 use Rattle.lists.proofs.Tabulate.{length-tabulate, all-tabulate}
 use Rattle.tables.specs.declared.Thread.{Thread}
 use Rattle.tables.specs.Sizes.{threads}
-use Rattle.tables.specs.Tables.{threadOf, arrivals, sizesOk, priorityOk, recordOk, recordsOk, tailOk, tablesOk}
+use Rattle.tables.specs.Editions.{present}
+use Rattle.tables.specs.Tables.{threadOf, arrivals, sizesOk, priorityOk, recordOk, recordsOk, tailOk, tablesIn, tablesOk}
 use Rattle.tables.specs.Steps.{flagged, SeenIn}
 use Rattle.tables.proofs.Checked.{checked}
 use Rattle.layout.specs.Layout.{maxLast, threadAt, stateAt, tablesAt, tablesSize, flagsOk, waitingAt, timedAt, lastAt, listAt}
@@ -55,18 +56,18 @@ regroup true true g false p q f r e = ap (λ x. x && p && q) (and-false g) ∙ s
 
 -- bytes of another length stand for no tables
 pub wrong-size : (b : List ℕ) → (length b ≡ tablesSize → ⊥) → tablesOk (tablesAt b) ≡ false
-unfolding tablesAt tablesOk
+unfolding tablesAt tablesIn
 wrong-size b h = rw (ne-eqb (length b) tablesSize h)
 
 module _ (b : List ℕ) (size : length b ≡ tablesSize) where
   whole : tablesOk (tablesAt b) ≡ (everyBelow threads (flagsOk b) && tablesOk (stateAt b))
   unfolding tablesAt
-  whole = rw (eq-eqb (length b) tablesSize size) (cases (everyBelow threads (flagsOk b)) (λ e. rw e) (λ e. rw e (unfold tablesOk in refl)))
+  whole = rw (eq-eqb (length b) tablesSize size) (cases (everyBelow threads (flagsOk b)) (λ e. rw e) (λ e. rw e (unfold tablesIn in refl)))
 
   -- a count above the number of threads
   pub wrong-count : threads < stateAt b .count → tablesOk (tablesAt b) ≡ false
   wrong-count h =
-      let broken : tablesOk (stateAt b) ≡ false = unfold tablesOk in rw (lt-leb (stateAt b .count) threads h, and-false (sizesOk (stateAt b))) in
+      let broken : tablesOk (stateAt b) ≡ false = unfold tablesIn in rw (lt-leb (stateAt b .count) threads h, and-false (sizesOk present (stateAt b))) in
       whole ∙ rw broken (and-false (everyBelow threads (flagsOk b)))
 
   rows : everyBelow threads (flagsFit b) && everyBelow threads (placeFits b) && everyBelow threads (timeFits (stateAt b .clock) b)

@@ -30,6 +30,12 @@ module _ {A : Type 0} where
       let ih = filter-within f g h same none xs in
       cases (h x) (λ e. cc (same x e)) (λ e. cc (none x e))
 
+  -- tests that agree on the elements
+  pub filter-alike : (f g h : A → Bool) → ((x : A) → h x ≡ true → f x ≡ g x) → (l : List A) → all h l ≡ true → filter f l ≡ filter g l
+  filter-alike f g h same [] a = refl
+  filter-alike f g h same (x ∷ xs) a =
+      cc (same x (and-left (h x) (all h xs) a), filter-alike f g h same xs (and-right (h x) (all h xs) a))
+
   filter-ext : (f g : A → Bool) (l : List A) → ((x : A) → f x ≡ g x) → filter f l ≡ filter g l
   filter-ext f g [] h = refl
   filter-ext f g (x ∷ xs) h = cc (h x, filter-ext f g xs h)
@@ -83,6 +89,12 @@ module _ {A : Type 0} where
   pub all-weaken : (f g : A → Bool) → ((x : A) → f x ≡ true → g x ≡ true) → (l : List A) → all f l ≡ true → all g l ≡ true
   all-weaken f g h [] a = refl
   all-weaken f g h (x ∷ xs) a = and-intro (h x (and-left (f x) (all f xs) a)) (all-weaken f g h xs (and-right (f x) (all f xs) a))
+
+  pub all-both : (f g h : A → Bool) → ((x : A) → f x ≡ true → g x ≡ true → h x ≡ true) → (l : List A) → all f l ≡ true → all g l ≡ true → all h l ≡ true
+  all-both f g h both [] a b = refl
+  all-both f g h both (x ∷ xs) a b = and-intro
+      (both x (and-left (f x) (all f xs) a) (and-left (g x) (all g xs) b))
+      (all-both f g h both xs (and-right (f x) (all f xs) a) (and-right (g x) (all g xs) b))
 
   -- a test of all elements and one at each place
   pub all-getD : (f : A → Bool) (d : A) (l : List A) → ((t : ℕ) → f (getD l t d) ≡ true) → all f l ≡ true

@@ -2,6 +2,7 @@ pub mod Tests
 pub mod Filter
 pub mod Update
 pub mod Occurs
+pub mod Highest
 pub mod Count
 pub mod Loops
 pub mod LeftOver

@@ -30,6 +30,11 @@ absent-occurs t (x ∷ xs) e =
 pub occurs-absent : (t : ℕ) (l : List ℕ) → occurs t l ≡ 0 → elem t l ≡ false
 occurs-absent t l h = cases (elem t l) (λ e. absurd (omega (arith, elem-occurs t l e))) (λ e. e)
 
+pub elem-agree : (t : ℕ) (l m : List ℕ) → occurs t l ≡ occurs t m → elem t l ≡ elem t m
+elem-agree t l m h = cases (elem t m)
+    (λ e. rw e (cases (elem t l) (λ d. d) (λ d. absurd (omega (arith, absent-occurs t l d, elem-occurs t m e)))))
+    (λ e. rw e (occurs-absent t l (omega (arith, absent-occurs t m e))))
+
 pub occurs-once : (t : ℕ) (l : List ℕ) → occurs t l ≤ 1 → occurs t l ≡ bit (elem t l)
 occurs-once t l h = cases (elem t l) (λ e. rw e (omega (arith, elem-occurs t l e))) (λ e. rw e (absent-occurs t l e))
 

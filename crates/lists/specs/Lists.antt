@@ -4,7 +4,7 @@ use mathlib.Core.Bool.{Bool, true, false, not, cond, _&&_, _||_}
 use mathlib.Core.List.{List, [], _∷_, _++_}
 use Prim.Native.Nat.{ℕ, suc, zero, _+_, _-_}
 use lib.ListN.{length, replicate}
-use lib.Dec.{eqb}
+use lib.Dec.{eqb, leb, ltb}
 
 module _ {ℓ} {A : Type ℓ} where
   -- the elements that pass the test, in their order
@@ -64,3 +64,13 @@ bit false = 0
 unfoldable pub countBelow : ℕ → (ℕ → Bool) → ℕ
 countBelow zero f = 0
 countBelow (suc n) f = countBelow n f + bit (f n)
+
+-- no element stands behind one of a lower number
+abbrev pub falling : {A : Type 0} → (A → ℕ) → List A → Bool
+falling f [] = true
+falling f (x ∷ xs) = all (λ y. leb (f y) (f x)) xs && falling f xs
+
+-- the list by a number of each element: first those of n and above, then those of n - 1, .. and last those of 0; those of one number in their order
+unfoldable pub fromHighest : {A : Type 0} → (A → ℕ) → ℕ → List A → List A
+fromHighest f zero l = l
+fromHighest f (suc n) l = filter (λ t. ltb n (f t)) l ++ fromHighest f n (filter (λ t. leb (f t) n) l)

@@ -11,7 +11,7 @@ use Rattle.tables.specs.Sizes.{bytesPerProcess}
 use Rattle.tables.specs.Tables.{threadOf, world}
 use Rattle.rules.specs.Answers.{Row, first}
 use Rattle.rules.specs.Commands.{commandOf}
-use Rattle.rules.specs.Calls.{firstRows, argumentRows, callRows, differs}
+use Rattle.rules.specs.Calls.{firstRows, argumentRows, rowsIn, callRows, differs}
 use Rattle.rules.specs.Events.{refusals}
 use Rattle.commands.specs.Places.{threadPlace, wordPlace}
 use Rattle.commands.proofs.Places.{thread-there, word-there}
@@ -25,7 +25,7 @@ rowsRead c s ws t i =
 
 module _ (c : Call) (s : State) (ws : List ℕ) (t i : ℕ) (thread : t ≡ threadPlace (c .process) (c .index)) (word : i ≡ wordPlace (c .process) (c .uaddr)) where
   same-rows : Same (rowsRead c s ws t i) (refusals (CallEvent c) (world s ws))
-  unfolding refusals callRows
+  unfolding refusals rowsIn
   same-rows =
       let k = commandOf (c .op) in
       refl then λ h1.

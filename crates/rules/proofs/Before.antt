@@ -24,7 +24,7 @@ use Rattle.rules.specs.Answers.{errnoNumber, Row, plain, first, Outcome,
 use Rattle.rules.specs.Commands.{commandOf}
 use Rattle.rules.specs.Signed.{negative}
 use Rattle.rules.specs.WakeOp.{argBits, isPower, opArgField, cmpArgField}
-use Rattle.rules.specs.Calls.{caller, isWakeOp, oldWord, callRows, releasedSecond, wait, wake, requeue, wakeOp, callEffect}
+use Rattle.rules.specs.Calls.{caller, isWakeOp, oldWord, rowsIn, releasedSecond, wait, wake, requeue, wakeOp, callEffect}
 use Rattle.rules.specs.Events.{ownRows, isQuery, refusals, clockEffect, interruptEffect, effect, step}
 use Rattle.rules.specs.Before.{rowWithoutReason, refusalsWithoutReasons, stepWithoutReasons, withoutReason, effectUnsigned, stepUnsigned, noneNegative, minus12, numbersWith12, OutcomeWith12, asWith12, full, judgedWith12, stepWith12}
 use Rattle.rules.specs.Claims.{Clear}
@@ -43,7 +43,7 @@ module _ {ℓ} {A : Type ℓ} (f : Errno → A) where
   plain-rows (r ∷ rs) below = ap (cond (r .applies) (f (r .refusal .errno))) (plain-rows rs below)
 
   rows-before : (e : Event) (w : World) (below : A) → byErrno f (refusals e w) below ≡ byErrno f (refusalsWithoutReasons e w) below
-  unfolding refusals refusalsWithoutReasons callRows
+  unfolding refusals refusalsWithoutReasons rowsIn
   rows-before e w below = by-call (λ e. byErrno f (refusals e w) below ≡ byErrno f (refusalsWithoutReasons e w) below)
       (λ c. rw (arguments-one f (commandOf (c .op)) c _ below))
       (λ e none. cases (isQuery e) (λ q. rw q) (λ q. rw (q, none (List Row) _ _, plain-rows (ownRows e w) below))) e

@@ -15,7 +15,8 @@ use Rattle.tables.specs.declared.Thread.{Thread}
 use Rattle.rules.specs.declared.event.Command.{Command}
 use Rattle.rules.specs.declared.event.Call.{Call}
 use Rattle.rules.specs.declared.event.Event.the-variants.{Call as CallEvent}
-use Rattle.tables.specs.Tables.{World, processOf, freshThread, threadOf, arrivals, sleepsAt, queue, fallAsleep}
+use Rattle.tables.specs.Editions.{present}
+use Rattle.tables.specs.Tables.{World, processOf, freshThread, threadOf, arrivals, sleepsAt, queueIn, queue, sleepIn, fallAsleep}
 use Rattle.rules.specs.Calls.{caller}
 use Rattle.rules.specs.Events.{step}
 use Rattle.rules.specs.Claims.{Sleeps, sleepsBy, SameSleepers, NamedAlike}
@@ -29,23 +30,23 @@ module _ (p a : ℕ) (f : Thread → Thread) (t : ℕ) (s : State) (g : Sound s)
   u = fallAsleep f t s
 
   pub others-kept : (x : ℕ) → elem x (arrivals s) ≡ true → threadOf u x ≡ threadOf s x
-  unfolding fallAsleep
+  unfolding sleepIn
   others-kept x e = cases (elem x (t ∷ []))
       (λ d. clash (threadOf s t .waiting) (ap (λ y. threadOf s y .waiting) (sym (elem-one x t d)) ∙ sym (listed-waiting s g x) ∙ e) runs)
       (λ d. change-other f (t ∷ []) (s .threads) x freshThread d)
 
   queued-listed : (x : ℕ) → elem x (queue p a s) ≡ true → elem x (arrivals s) ≡ true
-  unfolding queue
+  unfolding queueIn
   queued-listed x e = cases (sleepsAt p a s x)
       (λ d. sym (elem-filter (sleepsAt p a s) x (arrivals s) d) ∙ e)
       (λ d. clash (elem x (queue p a s)) e (elem-filtered-out (sleepsAt p a s) x (arrivals s) d))
 
   joined : arrivals u ≡ arrivals s ++ (t ∷ [])
-  unfolding fallAsleep
-  joined = arrivals-with (arrivals s ++ (t ∷ [])) s
+  unfolding sleepIn
+  joined = arrivals-with present (arrivals s ++ (t ∷ [])) s
 
   same-queue : sleepsAt p a u t ≡ false → queue p a s ≡ queue p a u
-  unfolding queue
+  unfolding queueIn
   same-queue away =
       sym (ap (filter (sleepsAt p a u)) joined
       ∙ filter-append (sleepsAt p a u) (arrivals s) (t ∷ [])

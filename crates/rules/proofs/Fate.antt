@@ -11,7 +11,7 @@ use Rattle.rules.specs.declared.event.Call.{Call}
 use Rattle.rules.specs.declared.event.Event.{Event}
 use Rattle.rules.specs.declared.event.Event.the-variants.{Call as CallEvent, Store, Clock, Interrupt, Query, SetPriority}
 use Rattle.rules.specs.declared.answer.Answer.the-variants.{Asleep, Count}
-use Rattle.tables.specs.Tables.{expired, expiredSleepers, World, threadNumber, freshThread, threadOf, arrivals, withPriority, fallAsleep, setPriority, writeWord}
+use Rattle.tables.specs.Tables.{expired, expiredSleepers, World, threadNumber, freshThread, threadOf, arrivals, withPriority, sleepIn, setPriority, writeWord}
 use Rattle.rules.specs.Answers.{Outcome}
 use Rattle.rules.specs.Commands.{commandOf}
 use Rattle.rules.specs.Calls.{caller}
@@ -27,7 +27,7 @@ use Rattle.rules.proofs.Taken.{takes-first, took-expired, took-interrup
 
 module _ (w : World) (t : ℕ) where
   sleeper-fate : (c : Call) → step (CallEvent c) w .answer ≡ Asleep → Fate (CallEvent c) w t
-  unfolding fallAsleep
+  unfolding sleepIn
   sleeper-fate c h =
       let s = asleep-sleeps c w h in
       let f = sleepsBy c w in

@@ -17,6 +17,7 @@ use Rattle.rules.specs.declared.event.Call.{Call}
 use Rattle.rules.specs.declared.event.Event.{Event}
 use Rattle.rules.specs.declared.event.Event.the-variants.{Call as CallEvent, Clock, Interrupt}
 use Rattle.rules.specs.declared.answer.Answer.the-variants.{Count}
+use Rattle.tables.specs.Editions.{present}
 use Rattle.tables.specs.Tables.{World, threadNumber, processOf, threadOf, sleepsAt, expired, movedTo}
 use Rattle.rules.specs.Answers.{Outcome, lastNumber}
 use Rattle.rules.specs.Commands.{commandOf, uses}
@@ -32,7 +33,7 @@ use Rattle.rules.proofs.Elsewhere.{others-kept}
 use Rattle.rules.proofs.Chosen.{candidate, released-pass, moved-pass, second-pass, atFirst, atSecond}
 
 -- who is released or moved waits
-pub candidate-waits : (q : Thread → Bool) (p a : ℕ) (s : State) (t : ℕ) → candidate q p a s t ≡ true → threadOf s t .waiting ≡ true
+pub candidate-waits : (q : Thread → Bool) (p a : ℕ) (s : State) (t : ℕ) → candidate present q p a s t ≡ true → threadOf s t .waiting ≡ true
 candidate-waits q p a s t h =
     let r = threadOf s t in
     and-left (r .waiting) (eqb (r .uaddr) a) (and-right (eqb (processOf t) p) (r .waiting && eqb (r .uaddr) a) (and-right (q r) (sleepsAt p a s t) h))
@@ -44,15 +45,15 @@ module _ (k : Command) (c : Call) (w : World) (t : ℕ) where
   woken-waits : elem t (wokenBy k c w) ≡ true → before w t .waiting ≡ true
   woken-waits = elem-all waits (wokenBy k c w)
       (all-append waits (released k c (w .state)) (cond (isWakeOp k) (releasedSecond k c w) [])
-      (all-weaken (atFirst k c (w .state)) waits (candidate-waits (matches k c) (c .process) (c .uaddr) (w .state)) (released k c (w .state)) (released-pass k c (w .state)))
+      (all-weaken (atFirst present k c (w .state)) waits (candidate-waits (matches k c) (c .process) (c .uaddr) (w .state)) (released k c (w .state)) (released-pass present k c (w .state)))
       (cases (isWakeOp k)
-      (λ e. rw e (all-weaken (atSecond k c (w .state)) waits (candidate-waits (matches k c) (c .process) (c .uaddr2) (w .state)) (releasedSecond k c w) (second-pass k c w)))
+      (λ e. rw e (all-weaken (atSecond present k c (w .state)) waits (candidate-waits (matches k c) (c .process) (c .uaddr2) (w .state)) (releasedSecond k c w) (second-pass present k c w)))
       (λ e. rw e))) t
 
   moved-waits : elem t (movedBy k c w) ≡ true → before w t .waiting ≡ true
   moved-waits = elem-all waits (movedBy k c w)
       (cases (uses k .moves)
-      (λ e. rw e (all-weaken (atFirst k c (w .state)) waits (candidate-waits (matches k c) (c .process) (c .uaddr) (w .state)) (moved k c (w .state)) (moved-pass k c (w .state))))
+      (λ e. rw e (all-weaken (atFirst present k c (w .state)) waits (candidate-waits (matches k c) (c .process) (c .uaddr) (w .state)) (moved k c (w .state)) (moved-pass present k c (w .state))))
       (λ e. rw e)) t
 
 -- a call that ends a sleep is answered a count

@@ -63,7 +63,7 @@ module _ (p : ℕ) where
   answers-view (e ∷ es) w g =
       let ih = answers-view es (step e w .world) (step-valid e w g) in
       cases (belongs p e)
-      (λ n. cc (own-kept (named e) n, own-step e w g n))
+      (λ n. rw (n, own-kept (named e) n, ← own-step e w g n, n) (ap (step e w .answer ∷_) ih))
       (λ n. cases (isKept p (named e)) (λ k. cc (kept-step e w g k)) (λ k. cc (struck-step e w k)))
 
   -- equal views show the same

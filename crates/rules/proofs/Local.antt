@@ -1,10 +1,11 @@
 -- "The count that a wake or requeue answers depends on no sleeper at a word that the call doesn't name."
-use mathlib.Core.Path.{_≡_, refl, ap, _∙_}
+use mathlib.Core.Path.{_≡_, refl, sym, ap, _∙_}
 use mathlib.Core.Bool.{Bool, true}
 use Prim.Native.Nat.{ℕ}
 use lib.ListN.{length, take, drop}
-use Rattle.lists.specs.Lists.{filter}
-use Rattle.lists.proofs.Occurs.{filter-agree}
+use Rattle.lists.specs.Lists.{filter, elem}
+use Rattle.lists.proofs.Occurs.{filter-agree, all-elem}
+use Rattle.lists.proofs.Filter.{all-filtered}
 use Rattle.tables.specs.declared.State.{State}
 use Rattle.tables.specs.declared.Thread.{Thread}
 use Rattle.rules.specs.declared.event.Command.{Command}
@@ -12,28 +13,34 @@ use Rattle.rules.specs.declared.event.Command.the-variants.{WakeOp}
 use Rattle.rules.specs.declared.event.Call.{Call}
 use Rattle.rules.specs.declared.event.Event.the-variants.{Call as CallEvent}
 use Rattle.rules.specs.declared.answer.Answer.the-variants.{Count}
+use Rattle.tables.specs.Editions.{present}
 use Rattle.tables.specs.Tables.{World, threadOf, queue}
 use Rattle.rules.specs.Answers.{Outcome}
 use Rattle.rules.specs.Commands.{commandOf, uses}
-use Rattle.rules.specs.Calls.{isWakeOp, matches, secondCap, candidates, released, moved, releasedSecond, wait, wake, requeue, wakeOp, callEffect}
+use Rattle.rules.specs.Calls.{isWakeOp, ordered, matches, secondCap, candidatesIn, candidates, releasedIn, released, movedIn, moved, releasedSecond, wait, wake, requeue, wakeOp, callEffect}
 use Rattle.rules.specs.Events.{effect, step}
 use Rattle.rules.specs.Claims.{SameSleepers, NamedAlike}
 use Rattle.rules.proofs.Commands.{by-command}
+use Rattle.rules.proofs.Chosen.{ordered-agree}
 use Rattle.rules.proofs.Rows.{counted-done}
 
 candidates-alike : (q : Thread → Bool) (p a : ℕ) (s u : State) → SameSleepers p a s u → candidates q p a s ≡ candidates q p a u
-unfolding candidates
+unfolding candidatesIn
 candidates-alike q p a s u h =
-    filter-agree (λ t. q (threadOf s t)) (λ t. q (threadOf u t)) (queue p a s) (λ t e. ap q (h .records t e))
-    ∙ ap (filter (λ t. q (threadOf u t))) (h .order)
+    let l = filter (λ t. q (threadOf s t)) (queue p a s) in
+    sym (ordered-agree (present .order) (λ t. elem t (queue p a s)) s u (λ t e. sym (h .records t e)) l
+    (all-filtered (λ t. elem t (queue p a s)) (λ t. q (threadOf s t)) (queue p a s) (all-elem (λ t. elem t (queue p a s)) (queue p a s) (λ t e. e))))
+    ∙ ap (ordered (present .order) u)
+    (filter-agree (λ t. q (threadOf s t)) (λ t. q (threadOf u t)) (queue p a s) (λ t e. ap q (h .records t e))
+    ∙ ap (filter (λ t. q (threadOf u t))) (h .order))
 
 module _ (k : Command) (c : Call) (w v : World) (h : NamedAlike k c w v) where
   released-alike : released k c (w .state) ≡ released k c (v .state)
-  unfolding released
+  unfolding releasedIn
   released-alike = ap (take (c .val)) (candidates-alike (matches k c) (c .process) (c .uaddr) (w .state) (v .state) (h .first))
 
   moved-alike : moved k c (w .state) ≡ moved k c (v .state)
-  unfolding moved
+  unfolding movedIn
   moved-alike = ap (λ l. take (secondCap c) (drop (c .val) l)) (candidates-alike (matches k c) (c .process) (c .uaddr) (w .state) (v .state) (h .first))
 
   second-alike : uses k .second ≡ true → isWakeOp k ≡ true → releasedSecond k c w ≡ releasedSecond k c v

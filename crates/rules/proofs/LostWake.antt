@@ -20,15 +20,16 @@ use Rattle.rules.specs.declared.event.Call.{Call}
 use Rattle.rules.specs.declared.event.Event.{Event}
 use Rattle.rules.specs.declared.event.Event.the-variants.{Call as CallEvent}
 use Rattle.rules.specs.declared.answer.Answer.the-variants.{Count}
-use Rattle.tables.specs.Tables.{World, processOf, threadOf, arrivals, sleepsAt, queue}
+use Rattle.tables.specs.Editions.{present}
+use Rattle.tables.specs.Tables.{World, processOf, threadOf, arrivals, sleepsAt, queueIn, queue}
 use Rattle.rules.specs.Commands.{commandOf, uses}
-use Rattle.rules.specs.Calls.{matches, candidates, released, moved}
+use Rattle.rules.specs.Calls.{ordered, matches, candidatesIn, releasedIn, released, moved}
 use Rattle.rules.specs.Events.{refusals, step}
 use Rattle.rules.specs.History.{final}
 use Rattle.rules.specs.Claims.{Took, wokenBy, movedBy, Fate, stays, sleeps, wakes, moves, timesOut, isInterrupted, isSet, asleepThere, Enters, byWait, byRequeue, sleptThrough, Since}
 use Rattle.tables.proofs.Sound.{Sound, listed-waiting}
 use Rattle.rules.proofs.Passed.{clear-passed}
-use Rattle.rules.proofs.Chosen.{candidate-own, moved-pass}
+use Rattle.rules.proofs.Chosen.{candidate-own, moved-pass, ordered-length, ordered-elem}
 use Rattle.rules.proofs.Rows.{counted-clear}
 use Rattle.rules.proofs.Taken.{takes-first}
 use Rattle.rules.proofs.Requeued.{requeue-answered}
@@ -46,7 +47,7 @@ module _ (t a : ℕ) where
   requeued c w h = cases (uses k .moves)
       (λ m.
       let e : elem t (moved k c (w .state)) ≡ true = rw m at h in
-      (m, sym (eqb-true (processOf t) (c .process) (candidate-own (matches k c) (c .process) (c .uaddr) (w .state) t (elem-all _ (moved k c (w .state)) (moved-pass k c (w .state)) t e))), e))
+      (m, sym (eqb-true (processOf t) (c .process) (candidate-own present (matches k c) (c .process) (c .uaddr) (w .state) t (elem-all _ (moved k c (w .state)) (moved-pass present k c (w .state)) t e))), e))
       (λ m. clash false (rw m at h) refl)
     where
       k : Command
@@ -119,14 +120,18 @@ wake-empties c w n wake h enough t own = cases (elem t (wokenBy k c w))
     here was = and-intro (eq-eqb (processOf t) (c .process) own) was
 
     queued : asleepThere t (c .uaddr) w ≡ true → elem t (queue (c .process) (c .uaddr) (w .state)) ≡ true
-    queued was = unfold queue in
+    queued was = unfold queueIn in
         (elem-filter (sleepsAt (c .process) (c .uaddr) (w .state)) t (arrivals (w .state)) (here was)
         ∙ listed-waiting (w .state) g t
         ∙ and-left (threadOf (w .state) t .waiting) (eqb (threadOf (w .state) t .uaddr) (c .uaddr)) was)
 
-    whole : released k c (w .state) ≡ queue (c .process) (c .uaddr) (w .state)
-    whole = rw wake (unfold released candidates in
-        (ap (take (c .val)) (filter-true (queue (c .process) (c .uaddr) (w .state))) ∙ take-all (c .val) (queue (c .process) (c .uaddr) (w .state)) enough))
+    line : List ℕ
+    line = queue (c .process) (c .uaddr) (w .state)
+
+    whole : released k c (w .state) ≡ ordered (present .order) (w .state) line
+    whole = rw wake (unfold releasedIn candidatesIn in
+        (ap (λ l. take (c .val) (ordered (present .order) (w .state) l)) (filter-true line)
+        ∙ take-all (c .val) (ordered (present .order) (w .state) line) (rw (ordered-length (present .order) (w .state) line) enough)))
 
     awake : asleepThere t (c .uaddr) w ≡ true → elem t (wokenBy k c w) ≡ true
-    awake was = elem-append t (released k c (w .state)) _ ∙ rw (whole, queued was)
+    awake was = elem-append t (released k c (w .state)) _ ∙ rw (whole, ordered-elem (present .order) (w .state) t line, queued was)

@@ -21,8 +21,8 @@ use Rattle.rules.specs.declared.answer.Answer.the-variants.{Asleep, Coun
 use Rattle.tables.specs.Tables.{World, threadNumber, threadOf}
 use Rattle.rules.specs.Answers.{Row, Outcome, errnoNumber, answerNumbers, reasonOf, first, judged}
 use Rattle.rules.specs.Commands.{commandOf}
-use Rattle.rules.specs.Calls.{released, callRows, wait, wake, requeue, wakeOp, callEffect}
-use Rattle.rules.specs.Events.{isQuery, refusals, clockEffect, interruptEffect, panel, effect, step}
+use Rattle.rules.specs.Calls.{released, rowsIn, wait, wake, requeue, wakeOp, callEffect}
+use Rattle.rules.specs.Events.{isQuery, refusals, clockEffect, interruptEffect, panelIn, effect, step}
 use Rattle.rules.specs.Numbers.{done, numbersOf}
 use Rattle.rules.specs.Before.{stepWithoutReasons, withoutReason}
 use Rattle.rules.proofs.Arguments.{byErrno, arguments-one}
@@ -51,7 +51,7 @@ call-done WakeOp c w = refl
 call-done Unknown c w = refl
 
 effect-number : (e : Event) (w : World) → refuseBy (refusals e w) (answerNumbers (effect e w .answer)) ≡ numbersOf e w
-unfolding numbersOf refusals callRows effect clockEffect interruptEffect panel
+unfolding numbersOf refusals rowsIn effect clockEffect interruptEffect panelIn
 effect-number (CallEvent c) w = rw (arguments-one (λ x. negℤ (pos (errnoNumber x)) ∷ []) (commandOf (c .op)) c _ _, call-done (commandOf (c .op)) c w)
 effect-number (Store p a v) w = refl
 effect-number (Clock now) w = refl

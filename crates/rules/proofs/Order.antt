@@ -16,9 +16,10 @@ use Rattle.tables.specs.declared.State.{State}
 use Rattle.rules.specs.declared.event.Command.{Command}
 use Rattle.rules.specs.declared.event.Call.{Call}
 use Rattle.tables.specs.Sizes.{threads}
+use Rattle.tables.specs.Editions.{present}
 use Rattle.tables.specs.Tables.{World, wordAt, threadOf, arrivals, sleepsAt}
 use Rattle.rules.specs.WakeOp.{compares}
-use Rattle.rules.specs.Calls.{secondCap, matches, candidates, released, moved, releasedSecond}
+use Rattle.rules.specs.Calls.{secondCap, matches, candidates, releasedIn, released, movedIn, moved, releasedSecond}
 use Rattle.tables.proofs.Sound.{Sound, once, none-above, listed-waiting}
 use Rattle.rules.proofs.Chosen.{candidates-are, atFirst, atSecond}
 use Rattle.rules.proofs.Fates.{candidate-waits}
@@ -36,21 +37,21 @@ first-taken f t u (x ∷ xs) ys (suc n) not-before fits h =
     (λ e. rw e (first-taken f t u xs ys (suc n) rest fits (rw e at h)))
 
 module _ (k : Command) (c : Call) (s : State) where
-  released-in-order : (t u : ℕ) (xs ys : List ℕ) (n : ℕ) → arrivals s ≡ xs ++ u ∷ ys → elem t xs ≡ false → atFirst k c s u ≡ true
+  released-in-order : (t u : ℕ) (xs ys : List ℕ) (n : ℕ) → arrivals s ≡ xs ++ u ∷ ys → elem t xs ≡ false → atFirst present k c s u ≡ true
       → elem t (take n (candidates (matches k c) (c .process) (c .uaddr) s)) ≡ true
       → elem u (take n (candidates (matches k c) (c .process) (c .uaddr) s)) ≡ true
   released-in-order t u xs ys n is not-before fits h =
-      let same = candidates-are (matches k c) (c .process) (c .uaddr) s ∙ ap (filter (atFirst k c s)) is in
-      rw same (first-taken (atFirst k c s) t u xs ys n not-before fits (rw same at h))
+      let same = candidates-are present (matches k c) (c .process) (c .uaddr) s ∙ ap (filter (atFirst present k c s)) is in
+      rw same (first-taken (atFirst present k c s) t u xs ys n not-before fits (rw same at h))
 
-  pub none-overtaken : (t u : ℕ) (xs ys : List ℕ) → arrivals s ≡ xs ++ u ∷ ys → elem t xs ≡ false → atFirst k c s u ≡ true
+  pub none-overtaken : (t u : ℕ) (xs ys : List ℕ) → arrivals s ≡ xs ++ u ∷ ys → elem t xs ≡ false → atFirst present k c s u ≡ true
       → elem t (released k c s) ≡ true → elem u (released k c s) ≡ true
-  unfolding released
+  unfolding releasedIn
   none-overtaken t u xs ys is not-before fits h = released-in-order t u xs ys (c .val) is not-before fits h
 
-  pub none-passed : (t u : ℕ) (xs ys : List ℕ) → arrivals s ≡ xs ++ u ∷ ys → elem t xs ≡ false → atFirst k c s u ≡ true
+  pub none-passed : (t u : ℕ) (xs ys : List ℕ) → arrivals s ≡ xs ++ u ∷ ys → elem t xs ≡ false → atFirst present k c s u ≡ true
       → elem t (moved k c s) ≡ true → elem u (released k c s ++ moved k c s) ≡ true
-  unfolding released moved
+  unfolding releasedIn movedIn
   none-passed t u xs ys is not-before fits h =
       let l = candidates (matches k c) (c .process) (c .uaddr) s in
       let both = take-add (c .val) (secondCap c) l in
@@ -63,27 +64,27 @@ module _ (k : Command) (c : Call) (s : State) where
 
   length-candidates : Sound s → length (candidates (matches k c) (c .process) (c .uaddr) s) ≡ there
   length-candidates g =
-      let f = atFirst k c s in
-      ap length (candidates-are (matches k c) (c .process) (c .uaddr) s)
+      let f = atFirst present k c s in
+      ap length (candidates-are present (matches k c) (c .process) (c .uaddr) s)
       ∙ length-count threads (filter f (arrivals s)) (λ t. omega (arith, occurs-filter-le f t (arrivals s), once s g t)) (λ t h. omega (arith, occurs-filter-le f t (arrivals s), none-above s g t h))
       ∙ countBelow-ext threads (λ t. elem t (filter f (arrivals s))) f (λ t h. listed g t)
     where
-      listed : Sound s → (t : ℕ) → elem t (filter (atFirst k c s) (arrivals s)) ≡ atFirst k c s t
-      listed g t = cases (atFirst k c s t)
-          (λ e. elem-filter (atFirst k c s) t (arrivals s) e ∙ listed-waiting s g t ∙ candidate-waits (matches k c) (c .process) (c .uaddr) s t e ∙ sym e)
-          (λ e. elem-filtered-out (atFirst k c s) t (arrivals s) e ∙ sym e)
+      listed : Sound s → (t : ℕ) → elem t (filter (atFirst present k c s) (arrivals s)) ≡ atFirst present k c s t
+      listed g t = cases (atFirst present k c s t)
+          (λ e. elem-filter (atFirst present k c s) t (arrivals s) e ∙ listed-waiting s g t ∙ candidate-waits (matches k c) (c .process) (c .uaddr) s t e ∙ sym e)
+          (λ e. elem-filtered-out (atFirst present k c s) t (arrivals s) e ∙ sym e)
 
   pub released-many : Sound s → length (released k c s) ≡ min (c .val) there
-  unfolding released
+  unfolding releasedIn
   released-many g = length-take (c .val) _ ∙ ap (min (c .val)) (length-candidates g)
 
   pub moved-many : Sound s → length (moved k c s) ≡ min (secondCap c) (there - c .val)
-  unfolding moved
+  unfolding movedIn
   moved-many g = length-take (secondCap c) _ ∙ ap (min (secondCap c)) (length-drop (c .val) _ ∙ ap (_- c .val) (length-candidates g))
 
 -- WAKE_OP's second word: who is still asleep there
 pub second-overtaken : (k : Command) (c : Call) (w : World) (t u : ℕ) (xs ys : List ℕ) → arrivals (w .state) ≡ xs ++ u ∷ ys → elem t xs ≡ false
-    → atSecond k c (w .state) u ≡ true → elem t (releasedSecond k c w) ≡ true → elem u (released k c (w .state) ++ releasedSecond k c w) ≡ true
+    → atSecond present k c (w .state) u ≡ true → elem t (releasedSecond k c w) ≡ true → elem u (released k c (w .state) ++ releasedSecond k c w) ≡ true
 unfolding releasedSecond
 second-overtaken k c w t u xs ys is not-before fits h =
     elem-append u out (unfold releasedSecond in releasedSecond k c w) ∙ cases (elem u out)
@@ -96,10 +97,10 @@ second-overtaken k c w t u xs ys is not-before fits h =
     out = released k c (w .state)
 
     still : ℕ → Bool
-    still x = not (elem x out) && atSecond k c (w .state) x
+    still x = not (elem x out) && atSecond present k c (w .state) x
 
     same : without out (candidates (matches k c) (c .process) (c .uaddr2) (w .state)) ≡ filter still (xs ++ u ∷ ys)
     same =
-        ap (without out) (candidates-are (matches k c) (c .process) (c .uaddr2) (w .state))
-        ∙ filter-filter (λ x. not (elem x out)) (atSecond k c (w .state)) (arrivals (w .state))
+        ap (without out) (candidates-are present (matches k c) (c .process) (c .uaddr2) (w .state))
+        ∙ filter-filter (λ x. not (elem x out)) (atSecond present k c (w .state)) (arrivals (w .state))
         ∙ ap (filter still) is

@@ -1,5 +1,5 @@
 -- An event of the process, on the view, is answered and leaves what it does on the whole; a clock event leaves it.
-use mathlib.Core.Path.{_≡_, refl, sym, ap, _∙_, subst₂}
+use mathlib.Core.Path.{_≡_, refl, sym, ap, _∙_}
 use mathlib.Core.Bool.{Bool, true, false, not, _&&_, and-false}
 use mathlib.Core.List.{[], _∷_, _++_}
 use Prim.Native.Nat.{ℕ, suc, zero, _<_}
@@ -7,7 +7,7 @@ use native.Mathlib.Omega.{arith}
 use lib.ListN.{take, drop}
 use Rattle.lists.specs.Lists.{filter, all}
 use Rattle.lists.proofs.Tests.{cases}
-use Rattle.lists.proofs.Filter.{filter-within, filter-all, filter-filter, all-weaken, all-append}
+use Rattle.lists.proofs.Filter.{filter-within, filter-all, filter-filter, all-filter, all-weaken, all-append}
 use Rattle.tables.specs.declared.State.{State}
 use Rattle.tables.specs.declared.Thread.{Thread}
 use Rattle.tables.specs.declared.LastAnswer.the-variants.{Woken, TimedOut, Interrupted}
@@ -16,21 +16,21 @@ use Rattle.rules.specs.declared.event.Command.the-variants.{WakeOp}
 use Rattle.rules.specs.declared.event.Call.{Call}
 use Rattle.rules.specs.declared.event.Event.{Event}
 use Rattle.rules.specs.declared.event.Event.the-variants.{Call as CallEvent, Store, Clock, Interrupt, Query, SetPriority}
-use Rattle.rules.specs.declared.answer.Answer.the-variants.{Refused, Waiting}
-use Rattle.rules.specs.declared.answer.Refusal.{Refusal}
+use Rattle.rules.specs.declared.answer.Answer.the-variants.{Waiting}
 use Rattle.tables.specs.Sizes.{threadsPerProcess}
+use Rattle.tables.specs.Editions.{present}
 use Rattle.tables.specs.Tables.{expired, expiredSleepers, World, threadNumber, threadOf, arrivals, wordAt, endSleeps, setPriority, withClock, withState, tablesOk}
 use Rattle.rules.specs.Answers.{Outcome, outcome}
 use Rattle.rules.specs.Commands.{commandOf, uses}
 use Rattle.rules.specs.WakeOp.{newWord}
-use Rattle.rules.specs.Calls.{wrongMemory, caller, secondCap, argumentRows, matches, candidates, released, moved, releasedSecond, wait, wake, requeue, wakeOp, callEffect, callRows}
-use Rattle.rules.specs.Events.{refusals, clockEffect, interruptEffect, bitsBelow, waitingSet, panel, effect, step}
+use Rattle.rules.specs.Calls.{wrongMemory, caller, secondCap, argumentRows, matches, ordered, candidates, releasedIn, released, movedIn, moved, releasedSecond, wait, wake, requeue, wakeOp, callEffect, rowsIn}
+use Rattle.rules.specs.Events.{refusals, clockEffect, interruptEffect, bitsBelow, waitingIn, panelIn, panel, effect, step}
 use Rattle.rules.specs.Claims.{Clear}
 use Rattle.rules.proofs.Commands.{by-command}
-use Rattle.rules.proofs.Rows.{Same, _then_, same-behind, same-first, clear-pass, verdicts, step-refused, step-passed}
+use Rattle.rules.proofs.Rows.{Same, _then_, same-behind, same-rows}
 use Rattle.rules.proofs.Preserved.{Valid}
 use Rattle.rules.proofs.Passed.{Passed, clear-passed, memory-right, sound-right, thread-index, uaddr-inside, uaddr2-inside}
-use Rattle.rules.proofs.Chosen.{candidate, candidate-own, candidates-are, released-pass, moved-pass, second-pass, atFirst, atSecond}
+use Rattle.rules.proofs.Chosen.{candidate, candidate-own, candidates-are, ordered-agree, released-pass, moved-pass, second-pass, atFirst, atSecond}
 use Rattle.rules.proofs.View.{ownThread, viewState, view, view-state, view-with-state, own-thread, view-arrivals, view-own, view-clock, view-word, view-end, view-move, view-sleep-own, view-with-clock, view-priority-own, view-write-own, view-valid}
 
 abbrev pub viewOut : ℕ → Outcome → Outcome
@@ -40,34 +40,37 @@ viewOut p o = outcome (o .answer) (view p (o .world))
 module _ (p : ℕ) where
   own-candidates : (q : Thread → Bool) (a : ℕ) (s : State) → candidates q p a (viewState p s) ≡ candidates q p a s
   own-candidates q a s =
-      candidates-are q p a (viewState p s)
-      ∙ ap (filter (candidate q p a (viewState p s))) (view-arrivals p s)
-      ∙ filter-within (candidate q p a (viewState p s)) (candidate q p a s) (ownThread p) same none (arrivals s)
-      ∙ sym (candidates-are q p a s)
+      candidates-are present q p a (viewState p s)
+      ∙ ap (ordered (present .order) (viewState p s))
+      (ap (filter (candidate present q p a (viewState p s))) (view-arrivals p s)
+      ∙ filter-within (candidate present q p a (viewState p s)) (candidate present q p a s) (ownThread p) same none (arrivals s))
+      ∙ ordered-agree (present .order) (ownThread p) s (viewState p s) (view-own p s) (filter (candidate present q p a s) (arrivals s))
+      (all-weaken (candidate present q p a s) (ownThread p) (candidate-own present q p a s) (filter (candidate present q p a s) (arrivals s)) (all-filter (candidate present q p a s) (arrivals s)))
+      ∙ sym (candidates-are present q p a s)
     where
-      same : (t : ℕ) → ownThread p t ≡ true → candidate q p a (viewState p s) t ≡ candidate q p a s t
+      same : (t : ℕ) → ownThread p t ≡ true → candidate present q p a (viewState p s) t ≡ candidate present q p a s t
       same t e = rw (view-own p s t e)
 
-      none : (t : ℕ) → ownThread p t ≡ false → candidate q p a s t ≡ false
+      none : (t : ℕ) → ownThread p t ≡ false → candidate present q p a s t ≡ false
       none t e = rw e (and-false (q (threadOf s t)))
 
 module _ (k : Command) (c : Call) where
   pub released-own : (s : State) → all (ownThread (c .process)) (released k c s) ≡ true
-  released-own s = all-weaken (atFirst k c s) _ (candidate-own (matches k c) (c .process) (c .uaddr) s) (released k c s) (released-pass k c s)
+  released-own s = all-weaken (atFirst present k c s) _ (candidate-own present (matches k c) (c .process) (c .uaddr) s) (released k c s) (released-pass present k c s)
 
   pub moved-own : (s : State) → all (ownThread (c .process)) (moved k c s) ≡ true
-  moved-own s = all-weaken (atFirst k c s) _ (candidate-own (matches k c) (c .process) (c .uaddr) s) (moved k c s) (moved-pass k c s)
+  moved-own s = all-weaken (atFirst present k c s) _ (candidate-own present (matches k c) (c .process) (c .uaddr) s) (moved k c s) (moved-pass present k c s)
 
   pub second-own : (w : World) → all (ownThread (c .process)) (releasedSecond k c w) ≡ true
   second-own w =
-      all-weaken (atSecond k c (w .state)) _ (candidate-own (matches k c) (c .process) (c .uaddr2) (w .state)) (releasedSecond k c w) (second-pass k c w)
+      all-weaken (atSecond present k c (w .state)) _ (candidate-own present (matches k c) (c .process) (c .uaddr2) (w .state)) (releasedSecond k c w) (second-pass present k c w)
 
   released-view : (s : State) → released k c (viewState (c .process) s) ≡ released k c s
-  unfolding released
+  unfolding releasedIn
   released-view s = ap (take (c .val)) (own-candidates (c .process) (matches k c) (c .uaddr) s)
 
   moved-view : (s : State) → moved k c (viewState (c .process) s) ≡ moved k c s
-  unfolding moved
+  unfolding movedIn
   moved-view s = ap (λ l. take (secondCap c) (drop (c .val) l)) (own-candidates (c .process) (matches k c) (c .uaddr) s)
 
   second-view : (w : World) → wordAt (view (c .process) w) (c .process) (c .uaddr2) ≡ wordAt w (c .process) (c .uaddr2)
@@ -153,7 +156,7 @@ module _ (p : ℕ) (w : World) (g : Valid w) where
   same-waiting i h = rw (view-state p w, view-own p (w .state) (threadNumber p i) (own-thread p i h))
 
 call-rows : (c : Call) (w : World) → Valid w → Same (refusals (CallEvent c) w) (refusals (CallEvent c) (view (c .process) w))
-unfolding refusals callRows
+unfolding refusals rowsIn
 call-rows c w g =
     let p = c .process in
     same-memory p w g then λ h1.
@@ -175,7 +178,7 @@ bitsBelow-ext zero f h e = refl
 bitsBelow-ext (suc n) f h e = cc (bitsBelow-ext n f h (λ i l. e i (omega arith)), e n (omega arith))
 
 panel-own : (p : ℕ) (w : World) → Valid w → panel p (view p w .state) ≡ panel p (w .state)
-unfolding panel waitingSet
+unfolding panelIn waitingIn
 panel-own p w g =
     cc (
       same-tables p w g,
@@ -198,20 +201,11 @@ expired-view p now s =
 
 -- a step, where the tests and the effect are the same on the view
 module _ (p : ℕ) (e : Event) (w : World) (rows : Same (refusals e w) (refusals e (view p w))) where
-  by-rows : (P : Outcome → Outcome → Type 0) → ((x : Refusal) → P (outcome (Refused x) w) (outcome (Refused x) (view p w)))
-      → (Clear (refusals e w) → P (effect e w) (effect e (view p w))) → P (step e w) (step e (view p w))
-  by-rows P refused passed =
-      let same = same-first (refusals e w) (refusals e (view p w)) rows in
-      verdicts e w
-      (λ x r. subst₂ P (sym (step-refused e w x r)) (sym (step-refused e (view p w) x (sym same ∙ r))) (refused x))
-      (λ r. let q = clear-pass (refusals e w) r in
-      subst₂ P (sym (step-passed e w q)) (sym (step-passed e (view p w) (sym same ∙ q))) (passed r))
-
   own-step : (Clear (refusals e w) → viewOut p (effect e w) ≡ effect e (view p w)) → viewOut p (step e w) ≡ step e (view p w)
-  own-step h = by-rows (λ o u. viewOut p o ≡ u) (λ x. refl) h
+  own-step h = same-rows e w (view p w) rows (λ o u. viewOut p o ≡ u) (λ x. refl) h
 
   kept-step : (Clear (refusals e w) → view p (effect e w .world) ≡ effect e (view p w) .world) → view p (step e w .world) ≡ step e (view p w) .world
-  kept-step h = by-rows (λ o u. view p (o .world) ≡ u .world) (λ x. refl) h
+  kept-step h = same-rows e w (view p w) rows (λ o u. view p (o .world) ≡ u .world) (λ x. refl) h
 
 module _ (w : World) (g : Valid w) where
   pub step-call : (c : Call) → viewOut (c .process) (step (CallEvent c) w) ≡ step (CallEvent c) (view (c .process) w)

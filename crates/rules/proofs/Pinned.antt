@@ -30,7 +30,7 @@ use Rattle.rules.specs.declared.answer.Verdict.the-variants.{Refuse, Pas
 use Rattle.rules.specs.declared.answer.Answer.{Answer}
 use Rattle.rules.specs.declared.answer.Answer.the-variants.{Asleep, Count, Refused, Waiting}
 use Rattle.tables.specs.Sizes.{processes, threadsPerProcess, threads, noEntry, wordsPerProcess, bytesPerProcess, memoryWords, maxCap, maxPriority, wordBits, wordLimit}
-use Rattle.tables.specs.Tables.{World, world, fresh, expired, threadNumber, processOf, threadOf, arrivals, tablesOk, movedTo, withPriority, wordAt}
+use Rattle.tables.specs.Tables.{World, world, freshIn, fresh, expired, threadNumber, processOf, threadOf, arrivals, tablesOk, movedTo, withPriority, wordAt}
 use Rattle.rules.specs.Answers.{Row, first, reasonNumber, answerNumbers, reasonOf, lastNumber, Outcome, outcome}
 use Rattle.rules.specs.Commands.{commandOf, numbered, uses}
 use Rattle.rules.specs.Signed.{negative, signed, modulo, eqZ}
@@ -69,7 +69,7 @@ sizes = (refl, refl, refl, refl, refl, refl, refl, refl, refl, refl, refl, refl,
 
 -- The last answers by number: "The last answer is 1 until a sleep ends, then 0 (woken), -110 or -4."
 pub fresh-last : (words : List ℕ) (t : ℕ) → lastNumber (threadOf (start words .state) t .last) ≡ pos 1
-unfolding fresh
+unfolding freshIn
 fresh-last words t = ap (λ (r : Thread). lastNumber (r .last)) (getD-replicated threads t _)
 
 pub released-last : (c : Call) (w : World) (n t : ℕ) → step (CallEvent c) w .answer ≡ Count n → elem t (wokenBy (commandOf (c .op)) c w) ≡ true
@@ -88,7 +88,7 @@ interrupt-last p i w n h e =
 
 -- Priorities: "0 at the start"; a record with another priority is the same in all else;
 pub fresh-priority : (words : List ℕ) (t : ℕ) → threadOf (start words .state) t .priority ≡ 0
-unfolding fresh
+unfolding freshIn
 fresh-priority words t = ap (λ (r : Thread). r .priority) (getD-replicated threads t _)
 
 pub priority-written : (n : ℕ) (r : Thread)

@@ -14,37 +14,38 @@ use Rattle.rules.specs.declared.event.Call.{Call}
 use Rattle.rules.specs.declared.event.Event.{Event}
 use Rattle.rules.specs.declared.event.Event.the-variants.{Call as CallEvent, Store, Clock, Interrupt, Query, SetPriority}
 use Rattle.tables.specs.Sizes.{memoryWords, maxPriority}
-use Rattle.tables.specs.Tables.{World, threadNumber, threadOf, recordOk, asleepAt, endSleeps, writeWord}
+use Rattle.tables.specs.Editions.{Edition, present}
+use Rattle.tables.specs.Tables.{WorldIn, threadNumberIn, threadOf, recordOk, asleepAt, endIn, writeWord}
 use Rattle.rules.specs.Commands.{commandOf, uses}
-use Rattle.rules.specs.Calls.{caller, timeoutGiven, deadlineOf, maskOf, released, moved, wait, wake, requeue, wakeOp, callEffect}
+use Rattle.rules.specs.Calls.{callerIn, timeoutGiven, deadlineOf, maskOf, releasedIn, movedIn, wait, wake, requeue, wakeOp, callEffect}
 use Rattle.rules.specs.Events.{refusals, clockEffect, interruptEffect, effect, step}
-use Rattle.rules.specs.History.{start, final}
+use Rattle.rules.specs.History.{startIn, start, final}
 use Rattle.rules.specs.Claims.{Clear}
 use Rattle.rules.proofs.Rows.{step-keeps}
 use Rattle.tables.proofs.Changes.{arrivals-end}
-use Rattle.tables.proofs.Sound.{Sound, fresh-sound, priority-kept}
+use Rattle.tables.proofs.Sound.{SoundIn, fresh-sound, priority-kept}
 use Rattle.tables.proofs.Kept.{below-ok, ending, sound-move, sound-sleep, sound-clock, sound-priority}
 use Rattle.rules.proofs.Chosen.{moved-left}
-use Rattle.rules.proofs.Passed.{Passed, clear-passed, caller-below, uaddr-aligned, uaddr2-aligned, mask-given, uaddr-inside, uaddr2-inside}
+use Rattle.rules.proofs.Passed.{Passed, clear-passed, caller-there, uaddr-aligned, uaddr2-aligned, mask-given, uaddr-inside, uaddr2-inside}
 
 -- memory of full length and tables that keep the rules
-pub record Valid (w : World) : Type 0 where
+pub record Valid {ed : Edition} (w : WorldIn ed) : Type 0 where
   pub memory : length (w .words) ≡ memoryWords
-  pub sound : Sound (w .state)
+  pub sound : SoundIn ed (w .state)
 
-written : (p a v : ℕ) (w : World) → Valid w → Valid (writeWord p a v w)
+written : {ed : Edition} (p a v : ℕ) (w : WorldIn ed) → Valid w → Valid (writeWord p a v w)
 unfolding writeWord
 written p a v w g = record { memory = length-set (w .words) _ v ∙ g .memory; sound = g .sound }
 
-module _ (k : Command) (c : Call) (w : World) (g : Passed k c w) where
+module _ {ed : Edition} (k : Command) (c : Call) (w : WorldIn ed) (g : Passed k c w) where
   sleeper-ok : eqb (maskOf k c) 0 ≡ false → (timeoutGiven c && leb (deadlineOf k c (w .state .clock)) (w .state .clock)) ≡ false
-      → recordOk (w .state .clock) (asleepAt (c .uaddr) (maskOf k c) (timeoutGiven c) (deadlineOf k c (w .state .clock)) (threadOf (w .state) (caller c))) ≡ true
+      → recordOk (w .state .clock) (asleepAt (c .uaddr) (maskOf k c) (timeoutGiven c) (deadlineOf k c (w .state .clock)) (threadOf (w .state) (callerIn ed c))) ≡ true
   unfolding recordOk
   sleeper-ok mask time =
       and-intro
       (and-intro (and-intro (and-intro (uaddr-aligned k c (g .arguments)) (below-ok (c .uaddr) (uaddr-inside k c (g .addresses)))) (ap not mask))
       (ahead (timeoutGiven c) time))
-      (priority-kept (w .state) (g .sound) (caller c))
+      (priority-kept (w .state) (g .sound) (callerIn ed c))
     where
       ahead : (b : Bool) → (b && leb (deadlineOf k c (w .state .clock)) (w .state .clock)) ≡ false
           → cond b (ltb (w .state .clock) (cond b (deadlineOf k c (w .state .clock)) 0)) (eqb (cond b (deadlineOf k c (w .state .clock)) 0) 0) ≡ true
@@ -57,7 +58,7 @@ module _ (k : Command) (c : Call) (w : World) (g : Passed k c w) where
   wait-valid mask time =
       record {
         memory = g .memory;
-        sound = sound-sleep _ (caller c) (w .state) (caller-below c (g .process) (g .index)) (g .runs) refl (sleeper-ok mask time) (g .sound);
+        sound = sound-sleep _ (callerIn ed c) (w .state) (caller-there ed c (g .process) (g .index)) (g .runs) refl (sleeper-ok mask time) (g .sound);
       }
 
   wake-valid : Valid (wake k c w .world)
@@ -67,12 +68,12 @@ module _ (k : Command) (c : Call) (w : World) (g : Passed k c w) where
   requeue-valid : uses k .second ≡ true → Valid (requeue k c w .world)
   unfolding requeue
   requeue-valid two =
-      let s = endSleeps Woken (released k c (w .state)) (w .state) in
+      let s = endIn ed Woken (releasedIn ed k c (w .state)) (w .state) in
       record {
         memory = g .memory;
-        sound = sound-move (c .uaddr2) (moved k c (w .state)) s
+        sound = sound-move (c .uaddr2) (movedIn ed k c (w .state)) s
             (uaddr2-aligned k c (g .arguments) two) (uaddr2-inside k c (g .addresses) two)
-            (λ t. rw (arrivals-end Woken (released k c (w .state)) (w .state)) (moved-left k c (w .state) (g .sound) t))
+            (λ t. rw (arrivals-end ed Woken (releasedIn ed k c (w .state)) (w .state)) (moved-left ed k c (w .state) (g .sound) t))
             (ending Woken _ (w .state) (g .sound));
       }
 
@@ -80,7 +81,7 @@ module _ (k : Command) (c : Call) (w : World) (g : Passed k c w) where
   unfolding wakeOp
   wakeOp-valid = written _ _ _ _ (record { memory = g .memory; sound = ending Woken _ (w .state) (g .sound) })
 
-call-valid : (k : Command) (c : Call) (w : World) → Passed k c w → Valid (callEffect k c w .world)
+call-valid : {ed : Edition} (k : Command) (c : Call) (w : WorldIn ed) → Passed k c w → Valid (callEffect k c w .world)
 unfolding callEffect
 call-valid Wait c w g = wait-valid Wait c w g refl (g .ahead)
 call-valid WaitBitset c w g = wait-valid WaitBitset c w g (mask-given WaitBitset c (g .arguments) refl) (g .ahead)
@@ -91,24 +92,27 @@ call-valid CmpRequeue c w g = requeue-valid CmpRequeue c w g refl
 call-valid WakeOp c w g = wakeOp-valid WakeOp c w g
 call-valid Unknown c w g = record { memory = g .memory; sound = g .sound }
 
-effect-valid : (e : Event) (w : World) → Valid w → Clear (refusals e w) → Valid (effect e w .world)
+effect-valid : {ed : Edition} (e : Event) (w : WorldIn ed) → Valid w → Clear (refusals e w) → Valid (effect e w .world)
 unfolding effect refusals clockEffect interruptEffect
 effect-valid (CallEvent c) w g h = call-valid (commandOf (c .op)) c w (clear-passed c w h)
 effect-valid (Store p a v) w g h = written p a v w g
 effect-valid (Clock now) w g h = record { memory = g .memory; sound = sound-clock now (w .state) (g .sound) }
-effect-valid (Interrupt p i) w g h = cases (threadOf (w .state) (threadNumber p i) .waiting)
+effect-valid {ed} (Interrupt p i) w g h = cases (threadOf (w .state) (threadNumberIn ed p i) .waiting)
     (λ e. rw e (record { memory = g .memory; sound = ending Interrupted _ (w .state) (g .sound) }))
     (λ e. rw e g)
 effect-valid (Query p) w g h = g
-effect-valid (SetPriority p i n) w g h =
-    record { memory = g .memory; sound = sound-priority n (threadNumber p i) (w .state) (ltb-false maxPriority n (h .1 .1 .1 .0)) (g .sound) }
+effect-valid {ed} (SetPriority p i n) w g h =
+    record { memory = g .memory; sound = sound-priority n (threadNumberIn ed p i) (w .state) (ltb-false maxPriority n (h .1 .1 .1 .0)) (g .sound) }
 
-pub step-valid : (e : Event) (w : World) → Valid w → Valid (step e w .world)
+pub step-valid : {ed : Edition} (e : Event) (w : WorldIn ed) → Valid w → Valid (step e w .world)
 step-valid e w g = step-keeps Valid e w g (effect-valid e w g)
 
-pub final-valid : (h : List Event) (w : World) → Valid w → Valid (final h w)
+pub final-valid : {ed : Edition} (h : List Event) (w : WorldIn ed) → Valid w → Valid (final h w)
 final-valid [] w g = g
 final-valid (e ∷ es) w g = final-valid es (step e w .world) (step-valid e w g)
 
+pub valid-start : (ed : Edition) (words : List ℕ) → length words ≡ memoryWords → Valid (startIn ed words)
+valid-start ed words h = record { memory = h; sound = fresh-sound ed }
+
 pub start-valid : (words : List ℕ) → length words ≡ memoryWords → Valid (start words)
-start-valid words h = record { memory = h; sound = fresh-sound }
+start-valid = valid-start present

@@ -25,7 +25,7 @@ use Rattle.tables.specs.Sizes.{wordBytes, wordLimit, maxCap, maxPriority}
 use Rattle.tables.specs.Tables.{World, aligned}
 use Rattle.rules.specs.Answers.{Row, errnoNumber, reasonNumber, reasonOf, answerNumbers, isMinus22, first, reasonAmong, isRefused}
 use Rattle.rules.specs.Commands.{commandOf, uses}
-use Rattle.rules.specs.Calls.{argumentRows, callRows}
+use Rattle.rules.specs.Calls.{argumentRows, rowsIn}
 use Rattle.rules.specs.Events.{refusals, effect, step}
 use Rattle.rules.specs.Claims.{Fault, firstCap, secondCap, maskZero, uaddrUnaligned, addressUnaligned, uaddr2Unaligned, sameAddress, clockBack, priorityHigh}
 use Rattle.rules.proofs.Rows.{not-pass, rows-refused, _and_, verdicts, step-refused, step-clear}
@@ -92,7 +92,7 @@ abbrev fitting : Row → Bool
 fitting r = Bool·beq (hasReason (r .refusal .reason)) (isInvalid (r .refusal .errno))
 
 table-fitting : (e : Event) (w : World) → all fitting (refusals e w) ≡ true
-unfolding refusals callRows argumentRows
+unfolding refusals rowsIn argumentRows
 table-fitting (CallEvent c) w = refl
 table-fitting (Store p a v) w = refl
 table-fitting (Clock now) w = refl
@@ -101,7 +101,7 @@ table-fitting (Query p) w = refl
 table-fitting (SetPriority p i n) w = refl
 
 table-rising : (e : Event) (w : World) → Rising 1 (invalid (refusals e w))
-unfolding refusals callRows argumentRows
+unfolding refusals rowsIn argumentRows
 table-rising (CallEvent c) w = omega arith and omega arith and omega arith and omega arith and omega arith and omega arith and tt
 table-rising (Store p a v) w = omega arith and tt
 table-rising (Clock now) w = omega arith and tt
@@ -114,7 +114,7 @@ by-both : {P : Type 0} (a b : Bool) → (a ≡ true → b ≡ true → P) → (a
 by-both a b f h = f (and-left a b h) (and-right a b h)
 
 each-fault : (e : Event) (w : World) → Each (λ q. Fault w q e) (invalid (refusals e w))
-unfolding refusals callRows argumentRows
+unfolding refusals rowsIn argumentRows
 each-fault (CallEvent c) w =
     by-both (uses (commandOf (c .op)) .cap) (ltb maxCap (c .val)) (λ on h. firstCap c on (ltb-true maxCap (c .val) h))
     and by-both (uses (commandOf (c .op)) .second) (ltb maxCap (c .timeout % wordLimit)) (λ on h. secondCap c on (ltb-true maxCap (c .timeout % wordLimit) h))
@@ -130,7 +130,7 @@ each-fault (Query p) w = tt
 each-fault (SetPriority p i n) w = (λ h. priorityHigh p i n (ltb-true maxPriority n h)) and tt
 
 fault-in : (e : Event) (w : World) (q : Reason) → Fault w q e → (r : Row) × In r (invalid (refusals e w)) × (r .refusal .reason ≡ q) × (r .applies ≡ true)
-unfolding refusals callRows argumentRows
+unfolding refusals rowsIn argumentRows
 fault-in _ w _ (firstCap c u l) = (_, at, refl, and-intro u (lt-ltb maxCap (c .val) l))
 fault-in _ w _ (secondCap c u l) = (_, behind at, refl, and-intro u (lt-ltb maxCap (c .timeout % wordLimit) l))
 fault-in _ w _ (maskZero c u z) = (_, behind (behind at), refl, and-intro u (eq-eqb (c .val3) 0 z))
@@ -246,7 +246,7 @@ reason-told e w wrong h =
 
 pub call-reason : (c : Call) (w : World) → refuses22 (step (CallEvent c) w .answer) ≡ true
     → reasonOf (step (CallEvent c) w .answer) ≡ reasonAmong (argumentRows (commandOf (c .op)) c)
-unfolding refusals callRows argumentRows
+unfolding refusals rowsIn argumentRows
 call-reason c w h =
     let by = refused-22 (CallEvent c) w (step (CallEvent c) w .answer) refl h in
     by .2 ∙ sym (rows-refused (λ x. x .reason) (argumentRows (commandOf (c .op)) c) NoReason (by .0) (by .1))

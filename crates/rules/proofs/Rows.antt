@@ -1,5 +1,5 @@
 -- The table of answers: the first row that applies, tables whose rows agree, and steps that no row refuses.
-use mathlib.Core.Path.{_≡_, refl, sym, ap}
+use mathlib.Core.Path.{_≡_, refl, sym, ap, _∙_, subst₂}
 use mathlib.Core.Bool.{false, cond}
 use mathlib.Core.List.{List, [], _∷_, _++_}
 use Prim.Native.Nat.{ℕ}
@@ -9,8 +9,9 @@ use Rattle.rules.specs.declared.answer.Verdict.{Verdict}
 use Rattle.rules.specs.declared.answer.Verdict.the-variants.{Refuse, Pass}
 use Rattle.rules.specs.declared.answer.Answer.the-variants.{Count, Refused}
 use Rattle.rules.specs.declared.event.Event.{Event}
-use Rattle.tables.specs.Tables.{World}
-use Rattle.rules.specs.Answers.{Row, byRows, first, outcome, judged}
+use Rattle.tables.specs.Editions.{Edition}
+use Rattle.tables.specs.Tables.{WorldIn}
+use Rattle.rules.specs.Answers.{Row, byRows, first, OutcomeIn, outcome, judged}
 use Rattle.rules.specs.Calls.{firstRows}
 use Rattle.rules.specs.Events.{ownRows, isQuery, refusals, effect, step}
 use Rattle.rules.specs.Claims.{FirstOf, here, later, Clear}
@@ -77,7 +78,7 @@ module _ {ℓ} {A : Type ℓ} (f : Refusal → A) where
       (λ e. rw e (rows-refused rs below x (cc)))
 
 -- the rows of an event that is no panel query
-pub all-rows : (e : Event) (w : World) → isQuery e ≡ false → refusals e w ≡ firstRows w ++ ownRows e w
+pub all-rows : {ed : Edition} (e : Event) (w : WorldIn ed) → isQuery e ≡ false → refusals e w ≡ firstRows w ++ ownRows e w
 unfolding refusals
 all-rows e w h = rw h
 
@@ -106,19 +107,19 @@ same-first (r ∷ rs) (q ∷ qs) h =
     cases (r .applies) (λ e. cc (h .0, h .1)) (λ e. cc (h .1, same-first rs qs (h .2 e)))
 
 -- a step that a row refuses, and one that none does
-pub step-refused : (e : Event) (w : World) (x : Refusal) → first (refusals e w) ≡ Refuse x → step e w ≡ outcome (Refused x) w
+pub step-refused : {ed : Edition} (e : Event) (w : WorldIn ed) (x : Refusal) → first (refusals e w) ≡ Refuse x → step e w ≡ outcome (Refused x) w
 unfolding step
 step-refused e w x h = ap (λ v. judged v (effect e w) w) h
 
-pub step-passed : (e : Event) (w : World) → first (refusals e w) ≡ Pass → step e w ≡ effect e w
+pub step-passed : {ed : Edition} (e : Event) (w : WorldIn ed) → first (refusals e w) ≡ Pass → step e w ≡ effect e w
 unfolding step
 step-passed e w h = ap (λ v. judged v (effect e w) w) h
 
-pub step-clear : (e : Event) (w : World) → Clear (refusals e w) → step e w ≡ effect e w
+pub step-clear : {ed : Edition} (e : Event) (w : WorldIn ed) → Clear (refusals e w) → step e w ≡ effect e w
 step-clear e w h = step-passed e w (clear-pass (refusals e w) h)
 
 -- by cases, on what the table of answers says of an event
-pub verdicts {ℓ} : {P : Type ℓ} (e : Event) (w : World) → ((x : Refusal) → first (refusals e w) ≡ Refuse x → P)
+pub verdicts {ℓ} : {ed : Edition} {P : Type ℓ} (e : Event) (w : WorldIn ed) → ((x : Refusal) → first (refusals e w) ≡ Refuse x → P)
     → (Clear (refusals e w) → P) → P
 verdicts {P = P} e w refused passed = go (first (refusals e w)) refl
   where
@@ -126,13 +127,24 @@ verdicts {P = P} e w refused passed = go (first (refusals e w)) refl
     go (Refuse x) h = refused x h
     go Pass h = passed (pass-clear (refusals e w) h)
 
+-- in two worlds where the same row answers, if any, what holds of the effects and of what is refused holds of the steps
+pub same-rows : {a b : Edition} (e : Event) (w : WorldIn a) (v : WorldIn b) → Same (refusals e w) (refusals e v)
+    → (P : OutcomeIn a → OutcomeIn b → Type 0) → ((x : Refusal) → P (outcome (Refused x) w) (outcome (Refused x) v))
+    → (Clear (refusals e w) → P (effect e w) (effect e v)) → P (step e w) (step e v)
+same-rows e w v rows P refused passed =
+    let same = same-first (refusals e w) (refusals e v) rows in
+    verdicts e w
+    (λ x r. subst₂ P (sym (step-refused e w x r)) (sym (step-refused e v x (sym same ∙ r))) (refused x))
+    (λ r. let q = clear-pass (refusals e w) r in
+    subst₂ P (sym (step-passed e w q)) (sym (step-passed e v (sym same ∙ q))) (passed r))
+
 -- an event that is answered a count was not refused
-pub counted-clear : (e : Event) (w : World) (n : ℕ) → step e w .answer ≡ Count n → Clear (refusals e w)
+pub counted-clear : {ed : Edition} (e : Event) (w : WorldIn ed) (n : ℕ) → step e w .answer ≡ Count n → Clear (refusals e w)
 counted-clear e w n h = verdicts e w (λ x r. never (cc (step-refused e w x r))) (λ r. r)
 
-pub counted-done : (e : Event) (w : World) (n : ℕ) → step e w .answer ≡ Count n → step e w ≡ effect e w
+pub counted-done : {ed : Edition} (e : Event) (w : WorldIn ed) (n : ℕ) → step e w .answer ≡ Count n → step e w ≡ effect e w
 counted-done e w n h = step-clear e w (counted-clear e w n h)
 
 -- what holds before an event, and after its effect where no row refuses it, holds after its step
-pub step-keeps {ℓ} : (P : World → Type ℓ) (e : Event) (w : World) → P w → (Clear (refusals e w) → P (effect e w .world)) → P (step e w .world)
+pub step-keeps {ℓ} : {ed : Edition} (P : WorldIn ed → Type ℓ) (e : Event) (w : WorldIn ed) → P w → (Clear (refusals e w) → P (effect e w .world)) → P (step e w .world)
 step-keeps P e w old new = verdicts e w (λ x h. rw (step-refused e w x h) old) (λ h. rw (step-clear e w h) (new h))

@@ -17,7 +17,8 @@ use Rattle.rules.specs.declared.event.Call.{Call}
 use Rattle.rules.specs.declared.event.Event.{Event}
 use Rattle.rules.specs.declared.event.Event.the-variants.{Call as CallEvent}
 use Rattle.rules.specs.declared.answer.Answer.the-variants.{Asleep, Count}
-use Rattle.tables.specs.Tables.{World, processOf, wordAt, freshThread, threadOf, sleepsAt, fallAsleep}
+use Rattle.tables.specs.Editions.{present}
+use Rattle.tables.specs.Tables.{World, processOf, wordAt, freshThread, threadOf, sleepsAt, sleepIn}
 use Rattle.rules.specs.Commands.{commandOf}
 use Rattle.rules.specs.Calls.{caller, matches, moved}
 use Rattle.rules.specs.Events.{step}
@@ -33,7 +34,7 @@ use Rattle.rules.proofs.Histories.{final-append}
 
 -- the record of who called a wait that sleeps
 pub sleeper : (c : Call) (w : World) → Sleeps c w → threadOf (step (CallEvent c) w .world .state) (caller c) ≡ sleepsBy c w (threadOf (w .state) (caller c))
-unfolding fallAsleep
+unfolding sleepIn
 sleeper c w s =
     let low = caller-below c (s .process) (s .index) in
     let size = tables-sound (w .state) (s .tables) .records in
@@ -46,7 +47,7 @@ module _ (t a : ℕ) where
   mover c w on =
       let k = commandOf (c .op) in
       let r = threadOf (w .state) t in
-      let at = elem-all (atFirst k c (w .state)) (moved k c (w .state)) (moved-pass k c (w .state)) t on in
+      let at = elem-all (atFirst present k c (w .state)) (moved k c (w .state)) (moved-pass present k c (w .state)) t on in
       and-right (eqb (processOf t) (c .process)) (r .waiting && eqb (r .uaddr) (c .uaddr))
       (and-right (matches k c r) (sleepsAt (c .process) (c .uaddr) (w .state) t) at)
 

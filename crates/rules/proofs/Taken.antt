@@ -22,7 +22,8 @@ use Rattle.rules.specs.declared.event.Event.{Event}
 use Rattle.rules.specs.declared.event.Event.the-variants.{Call as CallEvent, Store, Clock, Interrupt, Query, SetPriority}
 use Rattle.rules.specs.declared.answer.Answer.the-variants.{Count}
 use Rattle.tables.specs.Sizes.{threads}
-use Rattle.tables.specs.Tables.{expired, expiredSleepers, World, threadNumber, threadOf, arrivals, freshThread, withPriority, endSleeps, moveSleeps, setPriority, writeWord, withClock}
+use Rattle.tables.specs.Editions.{present}
+use Rattle.tables.specs.Tables.{expired, expiredSleepers, World, threadNumber, threadOf, arrivals, freshThread, withPriority, endIn, endSleeps, moveIn, moveSleeps, setPriority, writeWord, withClock}
 use Rattle.rules.specs.Answers.{Outcome}
 use Rattle.rules.specs.Commands.{commandOf, uses}
 use Rattle.rules.specs.Calls.{matches, released, moved, releasedSecond, wait, wake, requeue, wakeOp, callEffect}
@@ -37,21 +38,21 @@ use Rattle.rules.proofs.Took.{took-none, took-end, took-move, took-cloc
 
 module _ (k : Command) (c : Call) (w : World) (g : Sound (w .state)) where
   released-listed : (t : ℕ) → occurs t (released k c (w .state)) ≤ occurs t (arrivals (w .state))
-  released-listed t = omega (arith, parts-listed k c (w .state) t)
+  released-listed t = omega (arith, parts-listed present k c (w .state) t)
 
   moved-listed : (t : ℕ) → occurs t (moved k c (w .state)) ≤ occurs t (arrivals (w .state))
-  moved-listed t = omega (arith, parts-listed k c (w .state) t)
+  moved-listed t = omega (arith, parts-listed present k c (w .state) t)
 
   moved-not-released : (t : ℕ) → elem t (moved k c (w .state)) ≡ true → elem t (released k c (w .state)) ≡ false
   moved-not-released t e =
-      occurs-absent t (released k c (w .state)) (omega (arith, parts-listed k c (w .state) t, elem-occurs t (moved k c (w .state)) e, once (w .state) g t))
+      occurs-absent t (released k c (w .state)) (omega (arith, parts-listed present k c (w .state) t, elem-occurs t (moved k c (w .state)) e, once (w .state) g t))
 
   both-listed : (t : ℕ) → occurs t (released k c (w .state) ++ releasedSecond k c w) ≤ occurs t (arrivals (w .state))
   both-listed t =
       let out = released k c (w .state) in
       cases (elem t out)
-      (λ e. omega (arith, occurs-append t out (releasedSecond k c w), second-listed k c w t, occurs-taken-out t out (arrivals (w .state)) e, released-listed t))
-      (λ e. omega (arith, occurs-append t out (releasedSecond k c w), second-listed k c w t, occurs-without t out (arrivals (w .state)) e, absent-occurs t out e))
+      (λ e. omega (arith, occurs-append t out (releasedSecond k c w), second-listed present k c w t, occurs-taken-out t out (arrivals (w .state)) e, released-listed t))
+      (λ e. omega (arith, occurs-append t out (releasedSecond k c w), second-listed present k c w t, occurs-without t out (arrivals (w .state)) e, absent-occurs t out e))
 
   took-released : Took Woken (released k c (w .state)) [] (c .uaddr2) (w .state) (endSleeps Woken (released k c (w .state)) (w .state))
   took-released = took-end Woken (released k c (w .state)) (w .state) (g .records) (part-below (w .state) g (released k c (w .state)) released-listed) (c .uaddr2)
@@ -75,7 +76,7 @@ alone k c w on u took = rw (append-nil (released k c (w .state))) took
 
 effect-takes : (k : Command) (c : Call) (w : World) (n : ℕ) → Sound (w .state) → callEffect k c w .answer ≡ Count n
     → Takes k c w (callEffect k c w .world)
-unfolding callEffect wait wake requeue wakeOp endSleeps moveSleeps writeWord
+unfolding callEffect wait wake requeue wakeOp endIn moveIn writeWord
 effect-takes Wait c w n g h = never (cc)
 effect-takes WaitBitset c w n g h = never (cc)
 effect-takes Wake c w n g h = record { took = alone Wake c w _ _ (took-released Wake c w g); clock = refl; words = refl }
@@ -147,14 +148,14 @@ module _ (k : Command) (c : Call) (w : World) (g : Sound (w .state)) where
   module _ (v : State) (took : Took Woken (released k c (w .state)) (moved k c (w .state)) (c .uaddr2) (w .state) v) (apart : eqb (c .uaddr) (c .uaddr2) ≡ false) where
     away : (t : ℕ) → elem t (moved k c (w .state)) ≡ true → eqb (threadOf (w .state) t .uaddr) (c .uaddr2) ≡ false
     away t e =
-        let here = elem-all (atFirst k c (w .state)) (moved k c (w .state)) (moved-pass k c (w .state)) t e in
-        rw (candidate-at (matches k c) (c .process) (c .uaddr) (w .state) t here) apart
+        let here = elem-all (atFirst present k c (w .state)) (moved k c (w .state)) (moved-pass present k c (w .state)) t e in
+        rw (candidate-at present (matches k c) (c .process) (c .uaddr) (w .state) t here) apart
 
     released-counted : length (released k c (w .state)) ≡ countBelow threads (woke (w .state) v)
-    released-counted = count-woke Woken _ (moved k c (w .state)) (c .uaddr2) (w .state) v g took (parts-listed k c (w .state)) away
+    released-counted = count-woke Woken _ (moved k c (w .state)) (c .uaddr2) (w .state) v g took (parts-listed present k c (w .state)) away
 
     moved-counted : length (moved k c (w .state)) ≡ countBelow threads (shifted (w .state) v)
-    moved-counted = count-shifted Woken _ (moved k c (w .state)) (c .uaddr2) (w .state) v g took (parts-listed k c (w .state)) away
+    moved-counted = count-shifted Woken _ (moved k c (w .state)) (c .uaddr2) (w .state) v g took (parts-listed present k c (w .state)) away
 
   both-counted : (v : State) → Took Woken (released k c (w .state) ++ releasedSecond k c w) [] (c .uaddr2) (w .state) v
       → length (released k c (w .state)) + length (releasedSecond k c w) ≡ countBelow threads (woke (w .state) v)

@@ -28,7 +28,7 @@ use Rattle.rules.specs.Answers.{asleepNumber, reasonNumber, answerNumber
 use Rattle.rules.specs.Commands.{commandOf}
 use Rattle.rules.specs.Signed.{signed, Within, modulo, eqZ}
 use Rattle.rules.specs.WakeOp.{codeBits, argBits, opField, cmpField, opArgField, cmpArgField, opArg, cmpArg, shiftBit, operand, newWord, compareBy, compares, val3Of}
-use Rattle.rules.specs.Calls.{caller, secondCap, matches, candidates, released, moved, releasedSecond}
+use Rattle.rules.specs.Calls.{caller, secondCap, matches, candidatesIn, releasedIn, released, movedIn, moved, releasedSecond}
 use Rattle.rules.specs.Events.{refusals, effect, step}
 use Rattle.rules.specs.Numbers.{numbersOf}
 use Rattle.rules.specs.Before.{stepWithoutReasons, withoutReason, stepUnsigned, noneNegative, numbersWith12, asWith12, stepWith12}
@@ -184,12 +184,12 @@ asleep-leaves = Sleeps′.asleep-leaves
 -- requeue takes the matching sleepers in arrival order up to its caps, neither more nor fewer."
 pub released-first : (k : Command) (c : Call) (s : State)
     → released k c s ≡ take (c .val) (filter (λ t. matches k c (threadOf s t)) (queue (c .process) (c .uaddr) s))
-unfolding released candidates
+unfolding releasedIn candidatesIn
 released-first k c s = refl
 
 pub moved-next : (k : Command) (c : Call) (s : State)
     → moved k c s ≡ take (secondCap c) (drop (c .val) (filter (λ t. matches k c (threadOf s t)) (queue (c .process) (c .uaddr) s)))
-unfolding moved candidates
+unfolding movedIn candidatesIn
 moved-next k c s = refl
 
 -- WAKE_OP's second word: "if old compares true with cmparg, the first of those still asleep at uaddr2, up to the second cap"
@@ -198,7 +198,7 @@ pub released-second : (k : Command) (c : Call) (w : World)
     ≡ cond (compares (c .val3) (wordAt w (c .process) (c .uaddr2)))
     (take (secondCap c) (without (released k c (w .state)) (filter (λ t. matches k c (threadOf (w .state) t)) (queue (c .process) (c .uaddr2) (w .state)))))
     []
-unfolding releasedSecond candidates
+unfolding releasedSecond candidatesIn
 released-second k c w = refl
 
 -- Nobody is overtaken: a sleeper that the call matches, and that no released one stands before in the list, is released too,

@@ -14,7 +14,8 @@ use Rattle.lists.proofs.Count.{length-count, countBelow-ext}
 use Rattle.tables.specs.declared.State.{State}
 use Rattle.tables.specs.declared.LastAnswer.{LastAnswer}
 use Rattle.tables.specs.Sizes.{threads}
-use Rattle.tables.specs.Tables.{freshThread, threadOf, arrivals, ended, movedTo, withClock, endSleeps, moveSleeps}
+use Rattle.tables.specs.Editions.{present}
+use Rattle.tables.specs.Tables.{freshThread, threadOf, arrivals, ended, movedTo, withClock, endIn, endSleeps, moveIn, moveSleeps}
 use Rattle.rules.specs.Claims.{Took, woke, shifted}
 use Rattle.tables.proofs.Changes.{length-change, change-other, change-named, arrivals-end, arrivals-move}
 use Rattle.tables.proofs.Sound.{Sound, once, none-above}
@@ -36,11 +37,11 @@ took-none a target s =
 
 module _ (a : LastAnswer) (out : List ℕ) (s : State) (size : length (s .threads) ≡ threads) (low : (t : ℕ) → elem t out ≡ true → t < threads) where
   end-ran : (t : ℕ) → elem t out ≡ true → threadOf (endSleeps a out s) t ≡ ended a (threadOf s t)
-  unfolding endSleeps
+  unfolding endIn
   end-ran t e = change-named (ended a) out (s .threads) t freshThread e (let h = low t e in omega arith)
 
   end-stayed : (t : ℕ) → elem t out ≡ false → threadOf (endSleeps a out s) t ≡ threadOf s t
-  unfolding endSleeps
+  unfolding endIn
   end-stayed t e = change-other (ended a) out (s .threads) t freshThread e
 
   pub took-end : (target : ℕ) → Took a out [] target s (endSleeps a out s)
@@ -49,13 +50,13 @@ module _ (a : LastAnswer) (out : List ℕ) (s : State) (size : length (s .thread
         ran = end-ran;
         went = λ t e. absent e;
         stayed = λ t e d. end-stayed t e;
-        order = arrivals-end a out s ∙ sym (without-none (without out (arrivals s)));
+        order = arrivals-end present a out s ∙ sym (without-none (without out (arrivals s)));
       }
 
   -- some run and others move
   pub took-move : (target : ℕ) (on : List ℕ) → ((t : ℕ) → elem t on ≡ true → t < threads) → ((t : ℕ) → elem t on ≡ true → elem t out ≡ false)
       → Took a out on target s (moveSleeps target on (endSleeps a out s))
-  unfolding moveSleeps
+  unfolding moveIn
   took-move target on below apart =
       record {
         ran = λ t e. cases (elem t on)
@@ -65,14 +66,14 @@ module _ (a : LastAnswer) (out : List ℕ) (s : State) (size : length (s .thread
             change-named (movedTo target) on (u .threads) t freshThread d (let h = below t d in omega (arith, sized))
             ∙ ap (movedTo target) (end-stayed t (apart t d));
         stayed = λ t e d. change-other (movedTo target) on (u .threads) t freshThread d ∙ end-stayed t e;
-        order = arrivals-move target on u ∙ ap (λ l. without on l ++ on) (arrivals-end a out s);
+        order = arrivals-move present target on u ∙ ap (λ l. without on l ++ on) (arrivals-end present a out s);
       }
     where
       u : State
       u = endSleeps a out s
 
       sized : length (endSleeps a out s .threads) ≡ threads
-      sized = unfold endSleeps in (length-change (ended a) out (s .threads) ∙ size)
+      sized = unfold endIn in (length-change (ended a) out (s .threads) ∙ size)
 
 -- the clock is none of a thread's
 pub took-clock : {a : LastAnswer} {out on : List ℕ} {target : ℕ} {s u : State} (now : ℕ) → Took a out on target (withClock now s) u → Took a out on target s u

@@ -16,7 +16,8 @@ use Rattle.tables.specs.declared.State.{State}
 use Rattle.tables.specs.declared.Thread.{Thread}
 use Rattle.tables.specs.declared.LastAnswer.{LastAnswer}
 use Rattle.tables.specs.Sizes.{threadsPerProcess, wordsPerProcess, bytesPerProcess}
-use Rattle.tables.specs.Tables.{outside, World, threadNumber, processOf, wordNumber, wordAt, freshThread, threadOf, arrivals, change, ended, movedTo, withArrivals, withThreads, withClock, withPriority, endSleeps, moveSleeps, fallAsleep, setPriority, writeWord, withState}
+use Rattle.tables.specs.Editions.{present}
+use Rattle.tables.specs.Tables.{outside, World, threadNumber, processOf, wordNumber, wordAt, freshThread, threadOf, arrivals, change, ended, movedTo, withArrivals, withThreads, withClock, withPriority, endIn, endSleeps, moveIn, moveSleeps, sleepIn, fallAsleep, setPriority, writeWord, withState}
 use Rattle.tables.proofs.Changes.{arrivals-with, change-none}
 use Rattle.tables.proofs.Sound.{Sound, fresh-ok, sound-with}
 use Rattle.tables.proofs.Flags.{process-own}
@@ -35,7 +36,7 @@ onlyOwn own d l = update (λ i x. cond (own i) x d) l
 
 unfoldable pub viewState : ℕ → State → State
 viewState p s =
-    withArrivals (filter (ownThread p) (arrivals s)) (withThreads (onlyOwn (ownThread p) freshThread (s .threads)) s)
+    withArrivals present (filter (ownThread p) (arrivals s)) (withThreads (onlyOwn (ownThread p) freshThread (s .threads)) s)
 
 unfoldable pub view : ℕ → World → World
 view p w = record { state = viewState p (w .state); words = onlyOwn (ownWord p) 0 (w .words) }
@@ -79,7 +80,7 @@ module _ (p : ℕ) where
   -- what the view shows
   pub view-arrivals : (s : State) → arrivals (viewState p s) ≡ filter (ownThread p) (arrivals s)
   unfolding viewState
-  view-arrivals s = arrivals-with (filter (ownThread p) (arrivals s)) s
+  view-arrivals s = arrivals-with present (filter (ownThread p) (arrivals s)) s
 
   pub view-own : (s : State) (t : ℕ) → ownThread p t ≡ true → threadOf (viewState p s) t ≡ threadOf s t
   unfolding viewState
@@ -109,39 +110,41 @@ module _ (p : ℕ) where
 
   pub view-end : (a : LastAnswer) (ts : List ℕ) (s : State)
       → viewState p (endSleeps a ts s) ≡ endSleeps a (filter (ownThread p) ts) (viewState p s)
-  unfolding viewState endSleeps
+  unfolding viewState endIn
   view-end a ts s =
       cc (
         change-view (ended a) ts (s .threads),
         without-filter (ownThread p) ts (arrivals s),
-        arrivals-with (without ts (arrivals s)) s,
-        arrivals-with (filter (ownThread p) (arrivals s)) s,
+        arrivals-with present (without ts (arrivals s)) s,
+        arrivals-with present (filter (ownThread p) (arrivals s)) s,
       )
 
   pub view-move : (a : ℕ) (ts : List ℕ) (s : State)
       → viewState p (moveSleeps a ts s) ≡ moveSleeps a (filter (ownThread p) ts) (viewState p s)
-  unfolding viewState moveSleeps
+  unfolding viewState moveIn
   view-move a ts s =
       cc (
         change-view (movedTo a) ts (s .threads),
         without-filter (ownThread p) ts (arrivals s),
         filter-append (ownThread p) (without ts (arrivals s)) ts,
-        arrivals-with (without ts (arrivals s) ++ ts) s,
-        arrivals-with (filter (ownThread p) (arrivals s)) s,
+        arrivals-with present (without ts (arrivals s) ++ ts) s,
+        arrivals-with present (filter (ownThread p) (arrivals s)) s,
       )
 
   view-sleep : (f : Thread → Thread) (t : ℕ) (s : State)
       → viewState p (fallAsleep f t s)
-      ≡ withArrivals (filter (ownThread p) (arrivals s) ++ filter (ownThread p) (t ∷ []))
+      ≡ withArrivals present (filter (ownThread p) (arrivals s) ++ filter (ownThread p) (t ∷ []))
       (withThreads (change f (filter (ownThread p) (t ∷ [])) (onlyOwn (ownThread p) freshThread (s .threads))) s)
-  unfolding viewState fallAsleep
+  unfolding viewState sleepIn
   view-sleep f t s =
-      cc (change-view f (t ∷ []) (s .threads), filter-append (ownThread p) (arrivals s) (t ∷ []), arrivals-with (arrivals s ++ (t ∷ [])) s)
+      cc (change-view f (t ∷ []) (s .threads), filter-append (ownThread p) (arrivals s) (t ∷ []), arrivals-with present (arrivals s ++ (t ∷ [])) s)
 
   pub view-sleep-own : (f : Thread → Thread) (t : ℕ) (s : State) → ownThread p t ≡ true
       → viewState p (fallAsleep f t s) ≡ fallAsleep f t (viewState p s)
-  unfolding viewState fallAsleep
-  view-sleep-own f t s e = (unfold viewState fallAsleep in view-sleep f t s) ∙ cc (arrivals-with (filter (ownThread p) (arrivals s)) s)
+  unfolding viewState sleepIn
+  view-sleep-own f t s e =
+      let one : filter (ownThread p) (t ∷ []) ≡ t ∷ [] = rw e in
+      (unfold viewState sleepIn in view-sleep f t s) ∙ rw (one, arrivals-with present (filter (ownThread p) (arrivals s)) s)
 
   pub view-sleep-other : (f : Thread → Thread) (t : ℕ) (s : State) → ownThread p t ≡ false
       → viewState p (fallAsleep f t s) ≡ viewState p s
@@ -176,29 +179,29 @@ module _ (p : ℕ) where
 
   -- no sleep ended or moved
   pub end-none : (a : LastAnswer) (s : State) → endSleeps a [] (viewState p s) ≡ viewState p s
-  unfolding viewState endSleeps
+  unfolding viewState endIn
   end-none a s =
       cc (
         change-none (ended a) (onlyOwn (ownThread p) freshThread (s .threads)),
         filter-true (filter (ownThread p) (arrivals s)),
-        arrivals-with (filter (ownThread p) (arrivals s)) s,
+        arrivals-with present (filter (ownThread p) (arrivals s)) s,
       )
 
   pub move-none : (a : ℕ) (s : State) → moveSleeps a [] (viewState p s) ≡ viewState p s
-  unfolding viewState moveSleeps
+  unfolding viewState moveIn
   move-none a s =
       cc (
         change-none (movedTo a) (onlyOwn (ownThread p) freshThread (s .threads)),
         filter-true (filter (ownThread p) (arrivals s)),
         append-nil (filter (ownThread p) (arrivals s)),
-        arrivals-with (filter (ownThread p) (arrivals s)) s,
+        arrivals-with present (filter (ownThread p) (arrivals s)) s,
       )
 
   -- the view is valid too
   view-sound : (s : State) → Sound s → Sound (viewState p s)
   unfolding viewState
   view-sound s g =
-      sound-with (filter (ownThread p) (arrivals s)) (withThreads (onlyOwn (ownThread p) freshThread (s .threads)) s) (length-update _ (s .threads) ∙ g .records)
+      sound-with present (filter (ownThread p) (arrivals s)) (withThreads (onlyOwn (ownThread p) freshThread (s .threads)) s) (length-update _ (s .threads) ∙ g .records)
       (λ t. cases (ownThread p t)
       (λ e. rw (getD-own (ownThread p) freshThread (s .threads) t freshThread e) (g .kept t))
       (λ e. rw (getD-other (ownThread p) freshThread (s .threads) t e) (fresh-ok (s .clock))))

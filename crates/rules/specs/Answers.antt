@@ -16,7 +16,8 @@ use Rattle.rules.specs.declared.answer.Verdict.the-variants.{Refuse, Pas
 use Rattle.rules.specs.declared.answer.Answer.{Answer}
 use Rattle.rules.specs.declared.answer.Answer.the-variants.{Asleep, Count, Refused, Waiting}
 use Rattle.rules.specs.declared.answer.Answered.{Answered}
-use Rattle.tables.specs.Tables.{World}
+use Rattle.tables.specs.Editions.{Edition, present}
+use Rattle.tables.specs.Tables.{WorldIn}
 
 -- "Numbers are those of the Linux headers."
 abbrev pub errnoNumber : Errno → ℕ
@@ -107,11 +108,14 @@ abbrev pub reasonAmong : List Row → Reason
 reasonAmong rs = byRows (λ x. x .reason) rs NoReason
 
 -- What an event leaves: its answer, and the tables and words.
-pub record Outcome : Type 0 where
+pub record OutcomeIn (ed : Edition) : Type 0 where
   pub answer : Answer
-  pub world : World
+  pub world : WorldIn ed
 
-abbrev pub outcome : Answer → World → Outcome
+abbrev pub Outcome : Type 0
+Outcome = OutcomeIn present
+
+abbrev pub outcome : {ed : Edition} → Answer → WorldIn ed → OutcomeIn ed
 outcome a w = record { answer = a; world = w }
 
 -- an answer that refuses
@@ -122,10 +126,10 @@ isRefused (Refused x) = true
 isRefused (Waiting v) = false
 
 -- what the code hands back of it; the words it changes where they lie
-abbrev pub answered : Outcome → Answered
+abbrev pub answered : {ed : Edition} → OutcomeIn ed → Answered
 answered o = record { answer = o .answer; state = o .world .state }
 
 -- "Each of these leaves words, records, list and clock unchanged"
-abbrev pub judged : Verdict → Outcome → World → Outcome
+abbrev pub judged : {ed : Edition} → Verdict → OutcomeIn ed → WorldIn ed → OutcomeIn ed
 judged (Refuse x) o w = outcome (Refused x) w
 judged Pass o w = o

@@ -11,6 +11,7 @@ use Rattle.rules.specs.declared.event.Event.{Event}
 use Rattle.rules.specs.declared.answer.Errno.the-variants.{EINVAL}
 use Rattle.rules.specs.declared.answer.Answer.{Answer}
 use Rattle.rules.specs.declared.answer.Answer.the-variants.{Asleep, Count, Refused, Waiting}
+use Rattle.tables.specs.Editions.{present}
 use Rattle.tables.specs.Sizes.{threads, wordBits}
 use Rattle.tables.specs.Tables.{World, threadOf, wordAt}
 use Rattle.rules.specs.Answers.{answerNumbers, Row, plain, _when_, byRows, first, Outcome, outcome, judged}
@@ -27,7 +28,7 @@ rowWithoutReason r = r .refusal .errno when r .applies
 
 abbrev pub ownRowsWithoutReasons : Event → World → List Row
 ownRowsWithoutReasons e w = ofCall
-    (λ c. tableWith (EINVAL when badArgument (commandOf (c .op)) c ∷ []) c (threadOf (w .state) (caller c) .waiting) (w .state .clock) (wordAt w (c .process) (c .uaddr)))
+    (λ c. tableWith present (EINVAL when badArgument (commandOf (c .op)) c ∷ []) c (threadOf (w .state) (caller c) .waiting) (w .state .clock) (wordAt w (c .process) (c .uaddr)))
     (map rowWithoutReason (ownRows e w)) e
 
 unfoldable pub refusalsWithoutReasons : Event → World → List Row

@@ -4,7 +4,7 @@ use mathlib.Core.List.{List, [], _∷_, _++_}
 use Prim.Native.Nat.{ℕ, _+_, _-_, _%_, min}
 use lib.ListN.{length, take, drop}
 use lib.Dec.{eqb, leb, ltb}
-use Rattle.lists.specs.Lists.{filter, without}
+use Rattle.lists.specs.Lists.{filter, without, fromHighest}
 use Rattle.tables.specs.declared.State.{State}
 use Rattle.tables.specs.declared.Thread.{Thread}
 use Rattle.tables.specs.declared.LastAnswer.the-variants.{Woken}
@@ -14,33 +14,40 @@ use Rattle.rules.specs.declared.event.Call.{Call}
 use Rattle.rules.specs.declared.answer.Errno.the-variants.{ENXIO, EBADF, ESRCH, EBUSY, ENOSYS, EINVAL, EFAULT, EAGAIN, ETIMEDOUT}
 use Rattle.rules.specs.declared.answer.Reason.the-variants.{FirstCap, SecondCap, MaskZero, UaddrUnaligned, Uaddr2Unaligned, SameAddress}
 use Rattle.rules.specs.declared.answer.Answer.the-variants.{Asleep, Count, Refused}
-use Rattle.tables.specs.Sizes.{processes, threadsPerProcess, memoryWords, wordLimit, timeLimit, matchAny, maxCap}
-use Rattle.tables.specs.Tables.{World, sharesBit, threadNumber, threadOf, wordAt, queue, aligned, outside, tablesOk, endSleeps, moveSleeps, fallAsleep, asleepAt, writeWord, withState}
-use Rattle.rules.specs.Answers.{Row, _because_, plain, _given_, _when_, Outcome, outcome}
+use Rattle.tables.specs.Editions.{Order, byArrival, byPriority, Edition, present}
+use Rattle.tables.specs.Sizes.{processes, memoryWords, wordLimit, timeLimit, matchAny, maxCap, maxPriority}
+use Rattle.tables.specs.Tables.{WorldIn, sharesBit, threadNumberIn, threadOf, wordAt, queueIn, aligned, outside, tablesIn, endIn, moveIn, sleepIn, asleepAt, writeWord, withState}
+use Rattle.rules.specs.Answers.{Row, _because_, plain, _given_, _when_, OutcomeIn, outcome}
 use Rattle.rules.specs.Commands.{commandOf, notImplemented, uses}
 use Rattle.rules.specs.WakeOp.{undefinedOp, newWord, compares}
 
 -- "the lent memory is not 8,192 words long"
-abbrev pub wrongMemory : World → Bool
+abbrev pub wrongMemory : {ed : Edition} → WorldIn ed → Bool
 wrongMemory w = not (eqb (length (w .words)) memoryWords)
 
 -- "the tables break a table rule"
-abbrev pub brokenTables : World → Bool
-brokenTables w = not (tablesOk (w .state))
+abbrev pub brokenTables : {ed : Edition} → WorldIn ed → Bool
+brokenTables {ed} w = not (tablesIn ed (w .state))
 
 -- the first two rows of the table of answers, which are tested of every event but the panel query
-abbrev pub firstRows : World → List Row
+abbrev pub firstRows : {ed : Edition} → WorldIn ed → List Row
 firstRows w = ENXIO when wrongMemory w ∷ EBADF when brokenTables w ∷ []
 
 -- "the process or index is above 7"
 abbrev pub noProcess : ℕ → Bool
 noProcess p = leb processes p
 
+abbrev pub noThreadIn : Edition → ℕ → ℕ → Bool
+noThreadIn ed p i = noProcess p || leb (ed .perProcess) i
+
 abbrev pub noThread : ℕ → ℕ → Bool
-noThread p i = noProcess p || leb threadsPerProcess i
+noThread p i = noThreadIn present p i
+
+abbrev pub callerIn : Edition → Call → ℕ
+callerIn ed c = threadNumberIn ed (c .process) (c .index)
 
 abbrev pub caller : Call → ℕ
-caller c = threadNumber (c .process) (c .index)
+caller c = callerIn present c
 
 -- "The second cap is the timeout modulo 2^32; the flag is ignored."
 abbrev pub secondCap : Call → ℕ
@@ -99,10 +106,10 @@ late k c now = uses k .deadline && timeoutGiven c && leb (deadlineOf k c now) no
 
 -- The table of answers from its third row on, with its rows for -22, by what a call reads of the tables and words: whether the caller
 -- waits, the clock and the word at uaddr.
-abbrev pub tableWith : List Row → Call → Bool → ℕ → ℕ → List Row
-tableWith arguments c waits now word =
+abbrev pub tableWith : Edition → List Row → Call → Bool → ℕ → ℕ → List Row
+tableWith ed arguments c waits now word =
     let k = commandOf (c .op) in
-    ESRCH when noThread (c .process) (c .index)
+    ESRCH when noThreadIn ed (c .process) (c .index)
     ∷ EBUSY when waits
     ∷ ENOSYS when notImplemented (c .op)
     ∷ (arguments
@@ -113,8 +120,11 @@ tableWith arguments c waits now word =
     ∷ ETIMEDOUT when late k c now
     ∷ []))
 
-unfoldable pub callRows : Call → Bool → ℕ → ℕ → List Row
-callRows c waits now word = tableWith (argumentRows (commandOf (c .op)) c) c waits now word
+unfoldable pub rowsIn : Edition → Call → Bool → ℕ → ℕ → List Row
+rowsIn ed c waits now word = tableWith ed (argumentRows (commandOf (c .op)) c) c waits now word
+
+abbrev pub callRows : Call → Bool → ℕ → ℕ → List Row
+callRows c waits now word = rowsIn present c waits now word
 
 -- "Mask is all ones", of a WAIT_BITSET "mask val3"
 abbrev pub maskOf : Command → Call → ℕ
@@ -124,69 +134,83 @@ maskOf k c = cond (uses k .mask) (c .val3) matchAny
 abbrev pub matches : Command → Call → Thread → Bool
 matches k c r = not (uses k .mask) || sharesBit (c .val3) r
 
+-- threads in the order in which they are taken
+abbrev pub ordered : Order → State → List ℕ → List ℕ
+ordered byArrival s l = l
+ordered byPriority s l = fromHighest (λ t. threadOf s t .priority) maxPriority l
+
 -- The sleepers of a word that a wake or requeue may take, in the order in which it takes them. No other definition chooses.
-unfoldable pub candidates : (Thread → Bool) → ℕ → ℕ → State → List ℕ
-candidates q p a s = filter (λ t. q (threadOf s t)) (queue p a s)
+unfoldable pub candidatesIn : Edition → (Thread → Bool) → ℕ → ℕ → State → List ℕ
+candidatesIn ed q p a s = ordered (ed .order) s (filter (λ t. q (threadOf s t)) (queueIn ed p a s))
+
+abbrev pub candidates : (Thread → Bool) → ℕ → ℕ → State → List ℕ
+candidates q p a s = candidatesIn present q p a s
 
 -- "Releases the first val sleepers at uaddr"
-unfoldable pub released : Command → Call → State → List ℕ
-released k c s = take (c .val) (candidates (matches k c) (c .process) (c .uaddr) s)
+unfoldable pub releasedIn : Edition → Command → Call → State → List ℕ
+releasedIn ed k c s = take (c .val) (candidatesIn ed (matches k c) (c .process) (c .uaddr) s)
+
+abbrev pub released : Command → Call → State → List ℕ
+released k c s = releasedIn present k c s
 
 -- "then the next sleepers, up to the second cap"
-unfoldable pub moved : Command → Call → State → List ℕ
-moved k c s = take (secondCap c) (drop (c .val) (candidates (matches k c) (c .process) (c .uaddr) s))
+unfoldable pub movedIn : Edition → Command → Call → State → List ℕ
+movedIn ed k c s = take (secondCap c) (drop (c .val) (candidatesIn ed (matches k c) (c .process) (c .uaddr) s))
+
+abbrev pub moved : Command → Call → State → List ℕ
+moved k c s = movedIn present k c s
 
 -- "The old word at uaddr2"
-abbrev pub oldWord : Call → World → ℕ
+abbrev pub oldWord : {ed : Edition} → Call → WorldIn ed → ℕ
 oldWord c w = wordAt w (c .process) (c .uaddr2)
 
 -- "then, if old compares true with cmparg, the first of those still asleep at uaddr2, up to the second cap", by what val3 and old are compared by
-abbrev pub secondBy : (ℕ → ℕ → Bool) → Command → Call → World → List ℕ
-secondBy holds k c w =
+abbrev pub secondBy : {ed : Edition} → (ℕ → ℕ → Bool) → Command → Call → WorldIn ed → List ℕ
+secondBy {ed} holds k c w =
     cond (holds (c .val3) (oldWord c w))
-    (take (secondCap c) (without (released k c (w .state)) (candidates (matches k c) (c .process) (c .uaddr2) (w .state))))
+    (take (secondCap c) (without (releasedIn ed k c (w .state)) (candidatesIn ed (matches k c) (c .process) (c .uaddr2) (w .state))))
     []
 
-unfoldable pub releasedSecond : Command → Call → World → List ℕ
+unfoldable pub releasedSecond : {ed : Edition} → Command → Call → WorldIn ed → List ℕ
 releasedSecond k c w = secondBy compares k c w
 
 -- WAIT 0, WAIT_BITSET 9
-unfoldable pub wait : Command → Call → World → Outcome
-wait k c w =
+unfoldable pub wait : {ed : Edition} → Command → Call → WorldIn ed → OutcomeIn ed
+wait {ed} k c w =
     outcome Asleep
     (withState
-    (fallAsleep
+    (sleepIn ed
     (asleepAt (c .uaddr) (maskOf k c) (timeoutGiven c) (deadlineOf k c (w .state .clock)))
-    (caller c)
+    (callerIn ed c)
     (w .state))
     w)
 
 -- WAKE 1, WAKE_BITSET 10. "Answer: how many."
-unfoldable pub wake : Command → Call → World → Outcome
-wake k c w =
-    outcome (Count (length (released k c (w .state)))) (withState (endSleeps Woken (released k c (w .state)) (w .state)) w)
+unfoldable pub wake : {ed : Edition} → Command → Call → WorldIn ed → OutcomeIn ed
+wake {ed} k c w =
+    outcome (Count (length (releasedIn ed k c (w .state)))) (withState (endIn ed Woken (releasedIn ed k c (w .state)) (w .state)) w)
 
 -- CMP_REQUEUE 4: "Answer: released plus moved." REQUEUE 3: "answer: released only"
-unfoldable pub requeue : Command → Call → World → Outcome
-requeue k c w =
+unfoldable pub requeue : {ed : Edition} → Command → Call → WorldIn ed → OutcomeIn ed
+requeue {ed} k c w =
     outcome
-    (Count (length (released k c (w .state)) + cond (uses k .compare) (length (moved k c (w .state))) 0))
-    (withState (moveSleeps (c .uaddr2) (moved k c (w .state)) (endSleeps Woken (released k c (w .state)) (w .state))) w)
+    (Count (length (releasedIn ed k c (w .state)) + cond (uses k .compare) (length (movedIn ed k c (w .state))) 0))
+    (withState (moveIn ed (c .uaddr2) (movedIn ed k c (w .state)) (endIn ed Woken (releasedIn ed k c (w .state)) (w .state))) w)
 
 -- WAKE_OP 5: "The old word at uaddr2 is kept aside, the new word stored, the first val released at uaddr, then .." "Answer: the sum.", by the
 -- new word and those whom it releases at uaddr2
-abbrev pub wakeOpBy : ℕ → List ℕ → Command → Call → World → Outcome
-wakeOpBy new second k c w =
+abbrev pub wakeOpBy : {ed : Edition} → ℕ → List ℕ → Command → Call → WorldIn ed → OutcomeIn ed
+wakeOpBy {ed} new second k c w =
     outcome
-    (Count (length (released k c (w .state)) + length second))
+    (Count (length (releasedIn ed k c (w .state)) + length second))
     (writeWord (c .process) (c .uaddr2) new
-    (withState (endSleeps Woken (released k c (w .state) ++ second) (w .state)) w))
+    (withState (endIn ed Woken (releasedIn ed k c (w .state) ++ second) (w .state)) w))
 
-unfoldable pub wakeOp : Command → Call → World → Outcome
+unfoldable pub wakeOp : {ed : Edition} → Command → Call → WorldIn ed → OutcomeIn ed
 wakeOp k c w = wakeOpBy (newWord (c .val3) (oldWord c w)) (releasedSecond k c w) k c w
 
 -- What a call does where no row applies; that an unknown command is refused was tested before.
-unfoldable pub callEffect : Command → Call → World → Outcome
+unfoldable pub callEffect : {ed : Edition} → Command → Call → WorldIn ed → OutcomeIn ed
 callEffect Wait c w = wait Wait c w
 callEffect WaitBitset c w = wait WaitBitset c w
 callEffect Wake c w = wake Wake c w

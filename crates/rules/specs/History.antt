@@ -7,20 +7,24 @@ use Rattle.lists.specs.Lists.{filter}
 use Rattle.rules.specs.declared.event.Event.{Event}
 use Rattle.rules.specs.declared.event.Event.the-variants.{Call, Store, Clock, Interrupt, Query, SetPriority}
 use Rattle.rules.specs.declared.answer.Answer.{Answer}
-use Rattle.tables.specs.Tables.{World, fresh}
+use Rattle.tables.specs.Editions.{Edition, present}
+use Rattle.tables.specs.Tables.{WorldIn, World, freshIn}
 use Rattle.rules.specs.Events.{step}
 
 -- "the fresh state"; "Words at the start may be anything."
+abbrev pub startIn : (ed : Edition) → List ℕ → WorldIn ed
+startIn ed words = record { state = freshIn ed; words = words }
+
 abbrev pub start : List ℕ → World
-start words = record { state = fresh; words = words }
+start words = startIn present words
 
 -- what a history leaves
-abbrev pub final : List Event → World → World
+abbrev pub final : {ed : Edition} → List Event → WorldIn ed → WorldIn ed
 final [] w = w
 final (e ∷ es) w = final es (step e w .world)
 
 -- what every event of it is answered, in order
-abbrev pub answers : List Event → World → List Answer
+abbrev pub answers : {ed : Edition} → List Event → WorldIn ed → List Answer
 answers [] w = []
 answers (e ∷ es) w = step e w .answer ∷ answers es (step e w .world)
 
@@ -71,5 +75,5 @@ entriesOf p (e ∷ es) [] = []
 entriesOf p (e ∷ es) (x ∷ l) = cond (belongs p e) (x ∷ entriesOf p es l) (entriesOf p es l)
 
 -- the answers that the process's events got, in order
-abbrev pub answersTo : ℕ → List Event → World → List Answer
+abbrev pub answersTo : {ed : Edition} → ℕ → List Event → WorldIn ed → List Answer
 answersTo p h w = entriesOf p h (answers h w)

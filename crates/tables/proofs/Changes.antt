@@ -18,8 +18,9 @@ use Rattle.tables.specs.declared.Thread.{Thread}
 use Rattle.tables.specs.declared.LastAnswer.{LastAnswer}
 use Rattle.tables.specs.declared.Change.{Change}
 use Rattle.tables.specs.declared.Change.the-variants.{End, MoveTo}
-use Rattle.tables.specs.Sizes.{threads, noEntry}
-use Rattle.tables.specs.Tables.{freshThread, arrivals, change, ended, withArrivals, withThreads, endSleeps, moveSleeps}
+use Rattle.tables.specs.Sizes.{noEntry}
+use Rattle.tables.specs.Editions.{Edition, threadsIn}
+use Rattle.tables.specs.Tables.{freshThread, arrivals, change, ended, withArrivals, withThreads, endIn, moveIn}
 use Rattle.tables.specs.Steps.{changedBy}
 
 -- records
@@ -32,7 +33,7 @@ pub change-other : (f : Thread → Thread) (ts : List ℕ) (rs : List Thread) (t
 unfolding change
 change-other f ts rs t d e = getD-update-fixed (λ t r. cond (elem t ts) (f r) r) rs t d (rw e) ∙ rw e
 
-change-at : (f : Thread → Thread) (ts : List ℕ) (rs : List Thread) (t : ℕ) (d : Thread) → t < length rs
+pub change-at : (f : Thread → Thread) (ts : List ℕ) (rs : List Thread) (t : ℕ) (d : Thread) → t < length rs
     → getD (change f ts rs) t d ≡ cond (elem t ts) (f (getD rs t d)) (getD rs t d)
 unfolding change
 change-at f ts rs t d h = getD-update (λ t r. cond (elem t ts) (f r) r) rs t d h
@@ -90,16 +91,16 @@ pub change-one : (f : Thread → Thread) → ((r : Thread) → f (f r) ≡ f r) 
 change-one f again rs t d h = change-next f again [] rs t d h ∙ rw (change-none f rs)
 
 -- the arrival list
-pub arrivals-with : (l : List ℕ) (s : State) → arrivals (withArrivals l s) ≡ l
-arrivals-with l s = take-append-seam l (replicate (threads - length l) noEntry)
+pub arrivals-with : (ed : Edition) (l : List ℕ) (s : State) → arrivals (withArrivals ed l s) ≡ l
+arrivals-with ed l s = take-append-seam l (replicate (threadsIn ed - length l) noEntry)
 
-pub arrivals-end : (a : LastAnswer) (ts : List ℕ) (s : State) → arrivals (endSleeps a ts s) ≡ without ts (arrivals s)
-unfolding endSleeps
-arrivals-end a ts s = arrivals-with (without ts (arrivals s)) s
+pub arrivals-end : (ed : Edition) (a : LastAnswer) (ts : List ℕ) (s : State) → arrivals (endIn ed a ts s) ≡ without ts (arrivals s)
+unfolding endIn
+arrivals-end ed a ts s = arrivals-with ed (without ts (arrivals s)) s
 
-pub arrivals-move : (a : ℕ) (ts : List ℕ) (s : State) → arrivals (moveSleeps a ts s) ≡ without ts (arrivals s) ++ ts
-unfolding moveSleeps
-arrivals-move a ts s = arrivals-with (without ts (arrivals s) ++ ts) s
+pub arrivals-move : (ed : Edition) (a : ℕ) (ts : List ℕ) (s : State) → arrivals (moveIn ed a ts s) ≡ without ts (arrivals s) ++ ts
+unfolding moveIn
+arrivals-move ed a ts s = arrivals-with ed (without ts (arrivals s) ++ ts) s
 
 -- sleeps that end, and then others
 change-append : (a : LastAnswer) (us ts : List ℕ) (rs : List Thread) → change (ended a) ts (change (ended a) us rs) ≡ change (ended a) (us ++ ts) rs
@@ -114,10 +115,10 @@ change-append a us ts rs =
         (λ e. rw e (cases (elem t ts) (λ d. rw d) (λ d. rw d)))
         (λ e. rw e))
 
-pub end-append : (a : LastAnswer) (us ts : List ℕ) (s : State) → endSleeps a ts (endSleeps a us s) ≡ endSleeps a (us ++ ts) s
-unfolding endSleeps
-end-append a us ts s =
-    cc (change-append a us ts (s .threads), arrivals-with (without us (arrivals s)) (withThreads (change (ended a) us (s .threads)) s), without-append us ts (arrivals s))
+pub end-append : (ed : Edition) (a : LastAnswer) (us ts : List ℕ) (s : State) → endIn ed a ts (endIn ed a us s) ≡ endIn ed a (us ++ ts) s
+unfolding endIn
+end-append ed a us ts s =
+    cc (change-append a us ts (s .threads), arrivals-with ed (without us (arrivals s)) (withThreads (change (ended a) us (s .threads)) s), without-append us ts (arrivals s))
 
 -- a change that is made to one thread after another: one thread more
 again : (how : Change) (r : Thread) → changedBy how (changedBy how r) ≡ changedBy how r

@@ -9,7 +9,8 @@ use Rattle.lists.specs.Lists.{elem, distinct, everyBelow}
 use Rattle.lists.proofs.Count.{everyBelow-ext}
 use Rattle.tables.specs.declared.State.{State}
 use Rattle.tables.specs.Sizes.{threads}
-use Rattle.tables.specs.Tables.{threadOf, arrivals, numbersOk, exactOk, tailOk, recordsOk, tablesOk}
+use Rattle.tables.specs.Editions.{present}
+use Rattle.tables.specs.Tables.{threadOf, arrivals, numbersOk, exactOk, tailOk, recordsOk, tablesIn, tablesOk}
 use Rattle.tables.specs.Steps.{flagged, SeenIn}
 
 regroup : (n d e t r : Bool) → (n && d && t && (e && r)) ≡ (n && d && e && t && r)
@@ -23,7 +24,7 @@ pub checked : (s : State) (ok tail records : Bool) (marks : List Bool) → lengt
     → SeenIn (arrivals s) ok marks → tail ≡ tailOk s
     → records ≡ (everyBelow threads (λ t. Bool·beq (flagged marks t) (threadOf s t .waiting)) && recordsOk s)
     → (ok && tail && records) ≡ tablesOk s
-unfolding tablesOk
+unfolding tablesIn
 checked s ok tail records marks size entries few seen is all =
     let exact = everyBelow-ext threads (λ t. Bool·beq (flagged marks t) (threadOf s t .waiting)) (λ t. Bool·beq (elem t (arrivals s)) (threadOf s t .waiting))
     (λ t h. ap (λ b. Bool·beq b (threadOf s t .waiting)) (seen .marked t h)) in
@@ -35,5 +36,5 @@ checked s ok tail records marks size entries few seen is all =
       eq-eqb (length (s .threads)) threads size,
       eq-eqb (length (s .list)) threads entries,
       le-leb (s .count) threads few,
-      regroup (numbersOk s) (distinct (arrivals s)) (exactOk s) (tailOk s) (recordsOk s),
+      regroup (numbersOk present s) (distinct (arrivals s)) (exactOk present s) (tailOk s) (recordsOk s),
     )

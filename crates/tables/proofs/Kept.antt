@@ -14,52 +14,53 @@ use Rattle.tables.specs.declared.State.{State}
 use Rattle.tables.specs.declared.Thread.{Thread}
 use Rattle.tables.specs.declared.LastAnswer.{LastAnswer}
 use Rattle.tables.specs.declared.LastAnswer.the-variants.{TimedOut}
-use Rattle.tables.specs.Sizes.{threads, bytesPerProcess, maxPriority}
-use Rattle.tables.specs.Tables.{freshThread, threadOf, arrivals, aligned, outside, expired, expiredSleepers, deadlineOk, waitingOk, sleepOk, priorityOk, recordOk, change, ended, movedTo, withPriority, withArrivals, withThreads, withClock, endSleeps, moveSleeps, fallAsleep, setPriority}
+use Rattle.tables.specs.Sizes.{bytesPerProcess, maxPriority}
+use Rattle.tables.specs.Editions.{Edition, threadsIn}
+use Rattle.tables.specs.Tables.{freshThread, threadOf, arrivals, aligned, outside, expired, expiredSleepers, deadlineOk, waitingOk, sleepOk, priorityOk, recordOk, change, ended, movedTo, withPriority, withArrivals, withThreads, withClock, endIn, moveIn, sleepIn, setPriority}
 use Rattle.tables.proofs.Changes.{length-change, change-other, change-named}
-use Rattle.tables.proofs.Sound.{Sound, beyond, waiting-below, part-waits, fresh-ok, ended-ok, sleep-kept, priority-kept, sound-with}
+use Rattle.tables.proofs.Sound.{SoundIn, beyond, waiting-below, part-waits, fresh-ok, ended-ok, sleep-kept, priority-kept, sound-with}
 
 -- the records of ts changed by f, and a new arrival list
-unfoldable altered : (Thread → Thread) → List ℕ → List ℕ → State → State
-altered f ts l s = withArrivals l (withThreads (change f ts (s .threads)) s)
+unfoldable altered : Edition → (Thread → Thread) → List ℕ → List ℕ → State → State
+altered ed f ts l s = withArrivals ed l (withThreads (change f ts (s .threads)) s)
 
 -- The rules are kept where the changed records keep them and the list has the waiting threads.
-module _ (f : Thread → Thread) (ts l : List ℕ) (s : State) (size : length (s .threads) ≡ threads) where
-  altered-record : (P : Thread → Type 0) (t : ℕ) → (elem t ts ≡ true → threads ≤ t → P freshThread)
-      → (elem t ts ≡ true → P (f (threadOf s t))) → (elem t ts ≡ false → P (threadOf s t)) → P (threadOf (altered f ts l s) t)
+module _ (ed : Edition) (f : Thread → Thread) (ts l : List ℕ) (s : State) (size : length (s .threads) ≡ threadsIn ed) where
+  altered-record : (P : Thread → Type 0) (t : ℕ) → (elem t ts ≡ true → threadsIn ed ≤ t → P freshThread)
+      → (elem t ts ≡ true → P (f (threadOf s t))) → (elem t ts ≡ false → P (threadOf s t)) → P (threadOf (altered ed f ts l s) t)
   unfolding altered
   altered-record P t beyond named other = cases (elem t ts)
-      (λ e. cases (ltb t threads)
-      (λ h. rw (change-named f ts (s .threads) t freshThread e (let k = ltb-true t threads h in omega arith)) (named e))
-      (λ h. let out = ltb-false t threads h in
+      (λ e. cases (ltb t (threadsIn ed))
+      (λ h. rw (change-named f ts (s .threads) t freshThread e (let k = ltb-true t (threadsIn ed) h in omega arith)) (named e))
+      (λ h. let out = ltb-false t (threadsIn ed) h in
       rw (List·getD-eq-default (change f ts (s .threads)) freshThread {n = t} (omega (arith, length-change f ts (s .threads)))) (beyond e out)))
       (λ e. rw (change-other f ts (s .threads) t freshThread e) (other e))
 
   sound-altered : ((t : ℕ) → elem t ts ≡ true → recordOk (s .clock) (f (threadOf s t)) ≡ true)
       → ((t : ℕ) → elem t ts ≡ false → recordOk (s .clock) (threadOf s t) ≡ true)
-      → ((t : ℕ) → occurs t l ≡ bit (threadOf (altered f ts l s) t .waiting))
-      → Sound (altered f ts l s)
+      → ((t : ℕ) → occurs t l ≡ bit (threadOf (altered ed f ts l s) t .waiting))
+      → SoundIn ed (altered ed f ts l s)
   unfolding altered
   sound-altered named other exact =
-      sound-with l (withThreads (change f ts (s .threads)) s) (length-change f ts (s .threads) ∙ size)
+      sound-with ed l (withThreads (change f ts (s .threads)) s) (length-change f ts (s .threads) ∙ size)
       (λ t. altered-record (λ r. recordOk (s .clock) r ≡ true) t (λ e h. fresh-ok (s .clock)) (named t) (other t)) exact
 
 -- sleeps that end
-sound-end : (a : LastAnswer) (ts : List ℕ) (s : State) → length (s .threads) ≡ threads
+sound-end : (ed : Edition) (a : LastAnswer) (ts : List ℕ) (s : State) → length (s .threads) ≡ threadsIn ed
     → ((t : ℕ) → priorityOk (threadOf s t) ≡ true)
     → ((t : ℕ) → elem t ts ≡ false → recordOk (s .clock) (threadOf s t) ≡ true)
     → ((t : ℕ) → occurs t (arrivals s) ≡ bit (threadOf s t .waiting))
-    → Sound (endSleeps a ts s)
-unfolding endSleeps altered
-sound-end a ts s size low other exact =
-    sound-altered (ended a) ts (without ts (arrivals s)) s size (λ t e. ended-ok (s .clock) a (threadOf s t) (low t)) other
-    (λ t. altered-record (ended a) ts (without ts (arrivals s)) s size (λ r. occurs t (without ts (arrivals s)) ≡ bit (r .waiting)) t
+    → SoundIn ed (endIn ed a ts s)
+unfolding endIn altered
+sound-end ed a ts s size low other exact =
+    sound-altered ed (ended a) ts (without ts (arrivals s)) s size (λ t e. ended-ok (s .clock) a (threadOf s t) (low t)) other
+    (λ t. altered-record ed (ended a) ts (without ts (arrivals s)) s size (λ r. occurs t (without ts (arrivals s)) ≡ bit (r .waiting)) t
     (λ e h. occurs-taken-out t ts (arrivals s) e)
     (λ e. occurs-taken-out t ts (arrivals s) e)
     (λ e. occurs-without t ts (arrivals s) e ∙ exact t))
 
-pub ending : (a : LastAnswer) (ts : List ℕ) (s : State) → Sound s → Sound (endSleeps a ts s)
-ending a ts s g = sound-end a ts s (g .records) (priority-kept s g) (λ t e. g .kept t) (g .exact)
+pub ending : {ed : Edition} (a : LastAnswer) (ts : List ℕ) (s : State) → SoundIn ed s → SoundIn ed (endIn ed a ts s)
+ending {ed} a ts s g = sound-end ed a ts s (g .records) (priority-kept s g) (λ t e. g .kept t) (g .exact)
 
 -- sleeps that move
 waiting-ok : (now : ℕ) (r : Thread) → sleepOk now r ≡ true → r .waiting ≡ true → waitingOk now r ≡ true
@@ -78,14 +79,14 @@ moved-ok a now r al near ok on =
     (and-intro (and-intro al (below-ok a near)) (and-right (aligned (r .uaddr) && ltb (r .uaddr) bytesPerProcess) (not (eqb (r .bitset) 0)) m))
     (and-right (aligned (r .uaddr) && ltb (r .uaddr) bytesPerProcess && not (eqb (r .bitset) 0)) (deadlineOk now r) w))
 
-pub sound-move : (a : ℕ) (ts : List ℕ) (s : State) → aligned a ≡ true → outside a ≡ false
-    → ((t : ℕ) → occurs t ts ≤ occurs t (arrivals s)) → Sound s → Sound (moveSleeps a ts s)
-unfolding moveSleeps altered recordOk
-sound-move a ts s al near sub g =
-    sound-altered (movedTo a) ts (without ts (arrivals s) ++ ts) s (g .records)
+pub sound-move : {ed : Edition} (a : ℕ) (ts : List ℕ) (s : State) → aligned a ≡ true → outside a ≡ false
+    → ((t : ℕ) → occurs t ts ≤ occurs t (arrivals s)) → SoundIn ed s → SoundIn ed (moveIn ed a ts s)
+unfolding moveIn altered recordOk
+sound-move {ed} a ts s al near sub g =
+    sound-altered ed (movedTo a) ts (without ts (arrivals s) ++ ts) s (g .records)
     (λ t e. and-intro (moved-ok a (s .clock) (threadOf s t) al near (sleep-kept s g t) (part-waits s g ts sub t e)) (priority-kept s g t))
     (λ t e. g .kept t)
-    (λ t. altered-record (movedTo a) ts (without ts (arrivals s) ++ ts) s (g .records) (λ r. occurs t (without ts (arrivals s) ++ ts) ≡ bit (r .waiting)) t
+    (λ t. altered-record ed (movedTo a) ts (without ts (arrivals s) ++ ts) s (g .records) (λ r. occurs t (without ts (arrivals s) ++ ts) ≡ bit (r .waiting)) t
     (λ e h. absurd (let k = waiting-below s g t (part-waits s g ts sub t e) in omega arith))
     (λ e. occurs-append t (without ts (arrivals s)) ts
     ∙ omega (arith, occurs-taken-out t ts (arrivals s) e, elem-occurs t ts e, sub t, g .exact t, bit-le (threadOf s t .waiting)))
@@ -93,14 +94,14 @@ sound-move a ts s al near sub g =
     ∙ omega (arith, occurs-without t ts (arrivals s) e, absent-occurs t ts e, g .exact t)))
 
 -- a thread that falls asleep
-pub sound-sleep : (f : Thread → Thread) (t : ℕ) (s : State) → t < threads → threadOf s t .waiting ≡ false
-    → f (threadOf s t) .waiting ≡ true → recordOk (s .clock) (f (threadOf s t)) ≡ true → Sound s → Sound (fallAsleep f t s)
-unfolding fallAsleep altered
-sound-sleep f t s low off on ok g =
-    sound-altered f (t ∷ []) (arrivals s ++ (t ∷ [])) s (g .records)
+pub sound-sleep : {ed : Edition} (f : Thread → Thread) (t : ℕ) (s : State) → t < threadsIn ed → threadOf s t .waiting ≡ false
+    → f (threadOf s t) .waiting ≡ true → recordOk (s .clock) (f (threadOf s t)) ≡ true → SoundIn ed s → SoundIn ed (sleepIn ed f t s)
+unfolding sleepIn altered
+sound-sleep {ed} f t s low off on ok g =
+    sound-altered ed f (t ∷ []) (arrivals s ++ (t ∷ [])) s (g .records)
     (λ u e. rw (elem-one u t e) ok)
     (λ u e. g .kept u)
-    (λ u. altered-record f (t ∷ []) (arrivals s ++ (t ∷ [])) s (g .records) (λ r. occurs u (arrivals s ++ (t ∷ [])) ≡ bit (r .waiting)) u
+    (λ u. altered-record ed f (t ∷ []) (arrivals s ++ (t ∷ [])) s (g .records) (λ r. occurs u (arrivals s ++ (t ∷ [])) ≡ bit (r .waiting)) u
     (λ e h. absurd (let k = elem-one u t e in omega arith))
     (λ e. rw (elem-one u t e) (occurs-append t (arrivals s) (t ∷ []) ∙ rw on (omega (arith, g .exact t, ap bit off, ap bit (eqb-refl t)))))
     (λ e. occurs-append u (arrivals s) (t ∷ []) ∙ omega (arith, g .exact u, ap bit (or-left (eqb u t) false e))))
@@ -118,9 +119,9 @@ late-ok now then r ok x = cases (r .waiting)
     ahead true e on d = rw e (lt-ltb now (r .deadline) (leb-false (r .deadline) now (cc)))
     ahead false e on d = rw e (rw e at d)
 
-pub sound-clock : (now : ℕ) (s : State) → Sound s → Sound (endSleeps TimedOut (expiredSleepers now s) (withClock now s))
+pub sound-clock : {ed : Edition} (now : ℕ) (s : State) → SoundIn ed s → SoundIn ed (endIn ed TimedOut (expiredSleepers now s) (withClock now s))
 unfolding expiredSleepers recordOk
-sound-clock now s g = sound-end TimedOut (expiredSleepers now s) (withClock now s) (g .records) (priority-kept s g)
+sound-clock {ed} now s g = sound-end ed TimedOut (expiredSleepers now s) (withClock now s) (g .records) (priority-kept s g)
     (λ t e. and-intro (late-ok now (s .clock) (threadOf s t) (sleep-kept s g t) (cases (expired now (threadOf s t))
     (λ x. absurd (omega (
       arith,
@@ -137,10 +138,10 @@ priority-ok : (n now : ℕ) (r : Thread) → n ≤ maxPriority → recordOk now 
 unfolding recordOk
 priority-ok n now r low ok = and-intro (and-left (sleepOk now r) (priorityOk r) ok) (le-leb n maxPriority low)
 
-pub sound-priority : (n t : ℕ) (s : State) → n ≤ maxPriority → Sound s → Sound (setPriority n t s)
+pub sound-priority : {ed : Edition} (n t : ℕ) (s : State) → n ≤ maxPriority → SoundIn ed s → SoundIn ed (setPriority n t s)
 unfolding setPriority altered
-sound-priority n t s low g =
-    let changed = altered-record (withPriority n) (t ∷ []) (arrivals s) s (g .records) in
+sound-priority {ed} n t s low g =
+    let changed = altered-record ed (withPriority n) (t ∷ []) (arrivals s) s (g .records) in
     record {
       records = length-change (withPriority n) (t ∷ []) (s .threads) ∙ g .records;
       stored = g .stored;
@@ -148,5 +149,5 @@ sound-priority n t s low g =
       kept = λ u. changed (λ r. recordOk (s .clock) r ≡ true) u
           (λ e h. fresh-ok (s .clock)) (λ e. priority-ok n (s .clock) (threadOf s u) low (g .kept u)) (λ e. g .kept u);
       exact = λ u. changed (λ r. occurs u (arrivals s) ≡ bit (r .waiting)) u
-          (λ e h. g .exact u ∙ ap (λ (r : Thread). bit (r .waiting)) (beyond s (g .records) u h)) (λ e. g .exact u) (λ e. g .exact u);
+          (λ e h. g .exact u ∙ ap (λ (r : Thread). bit (r .waiting)) (beyond ed s (g .records) u h)) (λ e. g .exact u) (λ e. g .exact u);
     }

@@ -20,7 +20,8 @@ use Rattle.tables.specs.declared.LastAnswer.the-variants.{Woken}
 use Rattle.tables.specs.declared.Change.the-variants.{End, MoveTo}
 use Rattle.arrivals.specs.declared.Found.{Found}
 use Rattle.tables.specs.Sizes.{threads, noEntry}
-use Rattle.tables.specs.Tables.{freshThread, threadOf, arrivals, change, withThreads, ended, withPriority, endSleeps, moveSleeps, fallAsleep, setPriority, asleepAt}
+use Rattle.tables.specs.Editions.{present}
+use Rattle.tables.specs.Tables.{freshThread, threadOf, arrivals, change, withThreads, ended, withPriority, endIn, endSleeps, moveIn, sleepIn, fallAsleep, setPriority, asleepAt}
 use Rattle.tables.specs.Steps.{changedBy, Numbers, Flags, flagged, foundOf, endFirst, requeueFirst}
 use Rattle.tables.proofs.Changes.{arrivals-end, change-none, change-one}
 use Rattle.arrivals.proofs.Theorems.{taken-stored, found-released, found-moved, found-left}
@@ -115,7 +116,7 @@ module _ (s : State) (g : Sound s) where
   pub ends-first : (f : ℕ → Bool) (cap : ℕ) (a : LastAnswer) (x : Found) → x ≡ foundOf f cap 0 (arrivals s)
       → (u : State) → u ≡ withThreads (change (changedBy (End a)) (take (x .released) (drop 0 (x .taken))) (s .threads)) s
       → record { state = record { clock = u .clock; threads = u .threads; list = x .left; count = x .count }; n = x .released } ≡ endFirst a f cap s
-  unfolding endFirst endSleeps
+  unfolding endFirst endIn
   ends-first f cap a x is u new =
       let one : cap + 0 ≡ cap = omega arith in
       let left : leftOver f (cap + 0) (arrivals s) ≡ without (take cap (filter f (arrivals s))) (arrivals s) =
@@ -129,13 +130,13 @@ module _ (s : State) (g : Sound s) where
       → (l : List ℕ) → l ≡ padTo threads noEntry (take (x .count) (x .left) ++ take (x .moved) (drop (x .released) (x .taken)))
       → record { state = record { clock = v .clock; threads = v .threads; list = l; count = x .count + x .moved }; released = x .released; moved = x .moved }
       ≡ requeueFirst a f cap cap2 s
-  unfolding requeueFirst endSleeps moveSleeps
+  unfolding requeueFirst endIn moveIn
   requeues-first f cap cap2 a x is u first v next l all =
       let r = rs f cap cap2 in
       let m = ms f cap cap2 in
       let stay = without m (arrivals (endSleeps Woken r s)) in
       let gone : stay ≡ leftOver f (cap + cap2) (arrivals s) =
-      ap (without m) (arrivals-end Woken r s) ∙ without-append r m (arrivals s) ∙ ap (λ ts. without ts (arrivals s)) (sym (both f cap cap2))
+      ap (without m) (arrivals-end present Woken r s) ∙ without-append r m (arrivals s) ∙ ap (λ ts. without ts (arrivals s)) (sym (both f cap cap2))
       ∙ without-taken f (arrivals s) (cap + cap2) (once s g) in
       let released = first ∙ ap (λ ts. withThreads (change (changedBy (End Woken)) ts (s .threads)) s) (released-are f cap cap2 x is) in
       let moved : v ≡ withThreads (change (changedBy (MoveTo a)) m (change (changedBy (End Woken)) r (s .threads))) s =
@@ -155,7 +156,7 @@ pub falls-asleep : (s : State) → Sound s → (t a m : ℕ) (timed : Bool) (due
     → new ≡ asleepAt a m timed due (threadOf s t)
     → record { clock = s .clock; threads = set (s .threads) t new; list = set (s .list) (s .count) t; count = s .count + 1 }
     ≡ fallAsleep (asleepAt a m timed due) t s
-unfolding fallAsleep
+unfolding sleepIn
 falls-asleep s g t a m timed due new low runs is =
     let f = asleepAt a m timed due in
     let records : change f (t ∷ []) (s .threads) ≡ set (s .threads) t new =
@@ -176,7 +177,7 @@ sets-priority n t s new size low is =
 
 -- tables that keep the rules are as they would be stored, so that ending nobody's sleep changes nothing
 pub end-nobody : (a : LastAnswer) (s : State) → Sound s → endSleeps a [] s ≡ s
-unfolding endSleeps
+unfolding endIn
 end-nobody a s g =
     let records = change-none (ended a) (s .threads) in
     let list = ap (padTo threads noEntry) (filter-true (arrivals s)) ∙ sym (g .stored) in

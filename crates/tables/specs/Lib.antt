@@ -1,3 +1,4 @@
 pub mod Sizes
+pub mod Editions
 pub mod Tables
 pub mod Steps

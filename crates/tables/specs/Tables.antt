@@ -10,29 +10,39 @@ use Rattle.tables.specs.declared.State.{State}
 use Rattle.tables.specs.declared.Thread.{Thread}
 use Rattle.tables.specs.declared.LastAnswer.{LastAnswer}
 use Rattle.tables.specs.declared.LastAnswer.the-variants.{NoneYet}
-use Rattle.tables.specs.Sizes.{threads, threadsPerProcess, wordsPerProcess, wordBytes, bytesPerProcess, noEntry, maxPriority}
+use Rattle.tables.specs.Sizes.{wordsPerProcess, wordBytes, bytesPerProcess, noEntry, maxPriority}
+use Rattle.tables.specs.Editions.{Edition, present, threadsIn}
 
--- The tables and the lent words, which the kernel is handed with each event.
-pub record World : Type 0 where
+-- The tables and the lent words, which the kernel is handed with each event, under an edition of the rules.
+pub record WorldIn (ed : Edition) : Type 0 where
   pub state : State
   pub words : List ℕ
+
+abbrev pub World : Type 0
+World = WorldIn present
 
 -- the tables and the lent words
 abbrev pub world : State → List ℕ → World
 world s words = record { state = s; words = words }
 
 -- "thread (p, i) has number 8p + i"
+abbrev pub threadNumberIn : Edition → ℕ → ℕ → ℕ
+threadNumberIn ed p i = ed .perProcess * p + i
+
 abbrev pub threadNumber : ℕ → ℕ → ℕ
-threadNumber p i = threadsPerProcess * p + i
+threadNumber p i = threadNumberIn present p i
+
+abbrev pub processIn : Edition → ℕ → ℕ
+processIn ed t = t / ed .perProcess
 
 abbrev pub processOf : ℕ → ℕ
-processOf t = t / threadsPerProcess
+processOf t = processIn present t
 
 -- "the word at address a of process p is word 1024p + a/4 of the lent memory"
 abbrev pub wordNumber : ℕ → ℕ → ℕ
 wordNumber p a = wordsPerProcess * p + a / wordBytes
 
-abbrev pub wordAt : World → ℕ → ℕ → ℕ
+abbrev pub wordAt : {ed : Edition} → WorldIn ed → ℕ → ℕ → ℕ
 wordAt w p a = getD (w .words) (wordNumber p a) 0
 
 -- A thread's record at the start: "all running, last answers 1"; "a base priority, 0 to 31, 0 at the start".
@@ -46,34 +56,40 @@ threadOf s t = getD (s .threads) t freshThread
 abbrev pub arrivals : State → List ℕ
 arrivals s = take (s .count) (s .list)
 
+abbrev pub sleepsIn : Edition → ℕ → ℕ → State → ℕ → Bool
+sleepsIn ed p a s t = eqb (processIn ed t) p && (threadOf s t .waiting && eqb (threadOf s t .uaddr) a)
+
 abbrev pub sleepsAt : ℕ → ℕ → State → ℕ → Bool
-sleepsAt p a s t = eqb (processOf t) p && (threadOf s t .waiting && eqb (threadOf s t .uaddr) a)
+sleepsAt p a s t = sleepsIn present p a s t
 
 -- "The queue of a word is the arrival list's threads that wait there, in list order."
-unfoldable pub queue : ℕ → ℕ → State → List ℕ
-queue p a s = filter (sleepsAt p a s) (arrivals s)
+unfoldable pub queueIn : Edition → ℕ → ℕ → State → List ℕ
+queueIn ed p a s = filter (sleepsIn ed p a s) (arrivals s)
+
+abbrev pub queue : ℕ → ℕ → State → List ℕ
+queue p a s = queueIn present p a s
 
 -- The table rules, in the paper's order.
 
 -- "64 thread records and one arrival list with a count"
-abbrev pub sizesOk : State → Bool
-sizesOk s = eqb (length (s .threads)) threads && eqb (length (s .list)) threads
+abbrev pub sizesOk : Edition → State → Bool
+sizesOk ed s = eqb (length (s .threads)) (threadsIn ed) && eqb (length (s .list)) (threadsIn ed)
 
 -- "count at most 64"
-abbrev pub countOk : State → Bool
-countOk s = leb (s .count) threads
+abbrev pub countOk : Edition → State → Bool
+countOk ed s = leb (s .count) (threadsIn ed)
 
 -- "the first count entries are thread numbers"
-abbrev pub numbersOk : State → Bool
-numbersOk s = all (λ t. ltb t threads) (arrivals s)
+abbrev pub numbersOk : Edition → State → Bool
+numbersOk ed s = all (λ t. ltb t (threadsIn ed)) (arrivals s)
 
 -- "all different"
 abbrev pub distinctOk : State → Bool
 distinctOk s = distinct (arrivals s)
 
 -- "and are exactly the waiting threads"
-abbrev pub exactOk : State → Bool
-exactOk s = everyBelow threads (λ t. Bool·beq (elem t (arrivals s)) (threadOf s t .waiting))
+abbrev pub exactOk : Edition → State → Bool
+exactOk ed s = everyBelow (threadsIn ed) (λ t. Bool·beq (elem t (arrivals s)) (threadOf s t .waiting))
 
 -- "later entries are 255"
 abbrev pub tailOk : State → Bool
@@ -114,13 +130,19 @@ abbrev pub recordsOk : State → Bool
 recordsOk s = all (recordOk (s .clock)) (s .threads)
 
 -- "Table rules"
-unfoldable pub tablesOk : State → Bool
-tablesOk s =
-    sizesOk s && countOk s && numbersOk s && distinctOk s && exactOk s && tailOk s && recordsOk s
+unfoldable pub tablesIn : Edition → State → Bool
+tablesIn ed s =
+    sizesOk ed s && countOk ed s && numbersOk ed s && distinctOk s && exactOk ed s && tailOk s && recordsOk s
+
+abbrev pub tablesOk : State → Bool
+tablesOk s = tablesIn present s
 
 -- "Fresh: clock 0, all running, last answers 1, list empty."
-unfoldable pub fresh : State
-fresh = record { clock = 0; threads = replicate threads freshThread; list = replicate threads noEntry; count = 0 }
+unfoldable pub freshIn : Edition → State
+freshIn ed = record { clock = 0; threads = replicate (threadsIn ed) freshThread; list = replicate (threadsIn ed) noEntry; count = 0 }
+
+abbrev pub fresh : State
+fresh = freshIn present
 
 -- Whom an event may end.
 
@@ -142,8 +164,8 @@ abbrev pub withThreads : List Thread → State → State
 withThreads ts s = record { clock = s .clock; threads = ts; list = s .list; count = s .count }
 
 -- the arrival list as it is stored: its entries, then 255
-abbrev pub withArrivals : List ℕ → State → State
-withArrivals l s = record { clock = s .clock; threads = s .threads; list = padTo threads noEntry l; count = length l }
+abbrev pub withArrivals : Edition → List ℕ → State → State
+withArrivals ed l s = record { clock = s .clock; threads = s .threads; list = padTo (threadsIn ed) noEntry l; count = length l }
 
 abbrev pub withClock : ℕ → State → State
 withClock now s = record { clock = now; threads = s .threads; list = s .list; count = s .count }
@@ -172,16 +194,22 @@ ended a r = withLast a (withSleep false 0 0 false 0 r)
 
 -- "A released thread leaves the list, runs, and has last answer 0. A sleeper ended by the clock or an interrupt leaves
 -- the list and runs likewise, with its own last answer. Whatever ends or moves, the other entries keep their order."
-unfoldable pub endSleeps : LastAnswer → List ℕ → State → State
-endSleeps a ts s = withArrivals (without ts (arrivals s)) (withThreads (change (ended a) ts (s .threads)) s)
+unfoldable pub endIn : Edition → LastAnswer → List ℕ → State → State
+endIn ed a ts s = withArrivals ed (without ts (arrivals s)) (withThreads (change (ended a) ts (s .threads)) s)
+
+abbrev pub endSleeps : LastAnswer → List ℕ → State → State
+endSleeps a ts s = endIn present a ts s
 
 -- "with mask and deadline kept"
 abbrev pub movedTo : ℕ → Thread → Thread
 movedTo a r = withSleep (r .waiting) a (r .bitset) (r .timed) (r .deadline) r
 
 -- "move to uaddr2, joining the end of the arrival list in their order"
-unfoldable pub moveSleeps : ℕ → List ℕ → State → State
-moveSleeps a ts s = withArrivals (without ts (arrivals s) ++ ts) (withThreads (change (movedTo a) ts (s .threads)) s)
+unfoldable pub moveIn : Edition → ℕ → List ℕ → State → State
+moveIn ed a ts s = withArrivals ed (without ts (arrivals s) ++ ts) (withThreads (change (movedTo a) ts (s .threads)) s)
+
+abbrev pub moveSleeps : ℕ → List ℕ → State → State
+moveSleeps a ts s = moveIn present a ts s
 
 -- "no deadline with 0 stored"
 abbrev pub storedDeadline : Bool → ℕ → ℕ
@@ -192,16 +220,19 @@ abbrev pub asleepAt : ℕ → ℕ → Bool → ℕ → Thread → Thread
 asleepAt a m timed due r = withSleep true a m timed (storedDeadline timed due) r
 
 -- "The caller joins the end of the arrival list."
-unfoldable pub fallAsleep : (Thread → Thread) → ℕ → State → State
-fallAsleep f t s = withArrivals (arrivals s ++ (t ∷ [])) (withThreads (change f (t ∷ []) (s .threads)) s)
+unfoldable pub sleepIn : Edition → (Thread → Thread) → ℕ → State → State
+sleepIn ed f t s = withArrivals ed (arrivals s ++ (t ∷ [])) (withThreads (change f (t ∷ []) (s .threads)) s)
+
+abbrev pub fallAsleep : (Thread → Thread) → ℕ → State → State
+fallAsleep f t s = sleepIn present f t s
 
 -- "Log kind 5 sets it"
 unfoldable pub setPriority : ℕ → ℕ → State → State
 setPriority n t s = withThreads (change (withPriority n) (t ∷ []) (s .threads)) s
 
 -- one word of a process written
-unfoldable pub writeWord : ℕ → ℕ → ℕ → World → World
+unfoldable pub writeWord : {ed : Edition} → ℕ → ℕ → ℕ → WorldIn ed → WorldIn ed
 writeWord p a v w = record { state = w .state; words = set (w .words) (wordNumber p a) v }
 
-abbrev pub withState : State → World → World
+abbrev pub withState : {ed : Edition} → State → WorldIn ed → WorldIn ed
 withState s w = record { state = s; words = w .words }

@@ -8,18 +8,18 @@ use lib.Dec.{leb, ltb}
 use Rattle.lists.specs.Lists.{tabulate}
 use Rattle.lists.proofs.Tabulate.{getD-tabulate}
 use Rattle.tables.specs.Sizes.{noEntry}
-use Rattle.tables.specs.Tables.{fresh}
+use Rattle.tables.specs.Tables.{freshIn, fresh}
 use Rattle.layout.specs.Layout.{tablesBytes, tablesSize, listAt, waitingAt}
 
 abbrev laid : ℕ → ℕ
 laid i = cond (leb listAt i && ltb i waitingAt) noEntry 0
 
 all-laid : tablesBytes fresh ≡ tabulate tablesSize laid
-unfolding tablesBytes fresh flatten
+unfolding tablesBytes freshIn flatten
 all-laid = refl
 
 pub fresh-size : length (tablesBytes fresh) ≡ tablesSize
-unfolding tablesBytes fresh flatten
+unfolding tablesBytes freshIn flatten
 fresh-size = refl
 
 pub fresh-byte : (i : ℕ) → i < tablesSize → laid i ≡ getD (tablesBytes fresh) i 0

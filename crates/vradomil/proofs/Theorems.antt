@@ -25,7 +25,7 @@ use Rattle.rules.specs.declared.answer.Answer.{Answer}
 use Rattle.rules.specs.declared.answer.Answer.the-variants.{Asleep, Count, Refused, Waiting}
 use Rattle.rules.specs.Answers.{plain, answerNumbers, reasonNumber, reasonOf}
 use Rattle.rules.specs.Calls.{noProcess}
-use Rattle.rules.specs.Events.{waitingSet, panelOf, panel}
+use Rattle.rules.specs.Events.{waitingIn, waitingSet, panelOf, panelIn, panel}
 use Rattle.kernel.proofs.Events.{bits-small}
 use Rattle.layout.specs.Layout.{tablesBytes, tablesSize, tablesAt, wordsBytes, wordsAt}
 use Rattle.vradomil.specs.Host.{packed, hostNumber, reportBytes, reportSize, laidOver, EventFits, Calls, ChangesWords, ChangesTables, Shows, Initialised}
@@ -61,7 +61,7 @@ one-number (Waiting v) = inr (v, refl)
 -- The one number of a panel query holds the three that document 01 asks for, where include/vradomil.h takes them out.
 pub panel-unpacks : (p : ℕ) (s : State)
     → (packed (panel p s) % 256 ≡ panel p s .waiting) × (packed (panel p s) / 256 % 256 ≡ panel p s .count) × (packed (panel p s) / 65536 ≡ panel p s .lowest)
-unfolding panel waitingSet
+unfolding panelIn waitingIn
 panel-unpacks p s = parts (cond (noProcess p || not (tablesOk s)) 0 (waitingSet p s)) small
   where
     parts : (b : ℕ) → b < 2 ^ threadsPerProcess

@@ -8,7 +8,7 @@ use Rattle.rules.specs.declared.answer.Verdict.the-variants.{Refuse, Pass}
 use Rattle.rules.specs.Answers.{Row, _when_}
 use Rattle.rules.specs.WakeOp.{undefinedOp}
 use Rattle.rules.specs.Commands.{commandOf}
-use Rattle.rules.specs.Calls.{argumentRows, badAddress, isWakeOp, differs, late, callRows}
+use Rattle.rules.specs.Calls.{argumentRows, badAddress, isWakeOp, differs, late, rowsIn}
 use Rattle.rules.proofs.Rows.{rows-append}
 use Rattle.verdicts.proofs.verdict_on.Statement.{statement}
 use Rattle.verdicts.proofs.verdict_on.Tie as tie
@@ -69,7 +69,7 @@ behind c now word =
     ∷ []
 
 returns : tie.Need-returns
-unfolding callRows
+unfolding rowsIn
 returns c =
     let k = c .before .before .before .before .before .before .before .before in
     let g = k .before .before .before .before .before .before .before .before .before .args in

@@ -5,7 +5,7 @@ use lib.Dec.{ltb}
 use borrow.Author.Tests.{ltb-true}
 use Rattle.lists.proofs.Tests.{by-cases, and-right}
 use Rattle.tables.specs.Sizes.{processes}
-use Rattle.rules.specs.Events.{panelOf, panel}
+use Rattle.rules.specs.Events.{panelOf, panelIn}
 use Rattle.kernel.proofs.Events.{shown, hidden}
 use Rattle.kernel.proofs.event.query.Statement.{statement}
 use Rattle.kernel.proofs.event.query.Tie as tie
@@ -19,7 +19,7 @@ waiting-set-requires c κs =
     ltb-true p processes (and-right (c .before .tables-ok .result) (ltb p processes) (c .if1 .taken))
 
 returns : tie.Need-returns
-unfolding panel
+unfolding panelIn
 returns c =
     let g = c .before .before in
     let s = g .args .s in

@@ -6,7 +6,7 @@ use borrow.Author.Needs.{needs}
 use Rattle.tables.specs.declared.State.{State}
 use Rattle.tables.specs.Sizes.{threadsPerProcess}
 use Rattle.tables.specs.Tables.{threadNumber, threadOf}
-use Rattle.rules.specs.Events.{bitsBelow, waitingSet}
+use Rattle.rules.specs.Events.{bitsBelow, waitingIn}
 use Rattle.kernel.proofs.Events.{Bits, bits-start, bits-limit, bits-next}
 use Rattle.kernel.proofs.event.waiting_set.Statement.{statement}
 use Rattle.kernel.proofs.event.waiting_set.Tie as tie
@@ -60,7 +60,7 @@ cast-result : tie.Need-cast-result Inv-loop μ-loop
 cast-result c = omega (arith, bits-limit (c .before .loop .inv), c .before .loop .inv .below)
 
 returns : tie.Need-returns Inv-loop μ-loop
-unfolding waitingSet
+unfolding waitingIn
 returns c =
     let i : c .before .loop .i ≡ threadsPerProcess = omega arith in
     c .before .loop .inv .done ∙ ap (λ n. bitsBelow n (waits (c .before .before .args .t1) (c .before .before .args .process))) i

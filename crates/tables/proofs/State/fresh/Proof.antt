@@ -1,5 +1,5 @@
 use borrow.Author.Needs.{needs}
-use Rattle.tables.specs.Tables.{fresh}
+use Rattle.tables.specs.Tables.{freshIn}
 use Rattle.tables.proofs.State.fresh.Statement.{statement}
 use Rattle.tables.proofs.State.fresh.Tie as tie
 
@@ -7,7 +7,7 @@ fresh-requires : tie.Need-fresh-requires
 fresh-requires c κs = search needs
 
 returns : tie.Need-returns
-unfolding fresh
+unfolding freshIn
 returns c = rw (c .fresh .ensures)
 
 pub fresh-spec : {M : Type 1} → statement M

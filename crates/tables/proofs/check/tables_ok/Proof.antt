@@ -4,7 +4,8 @@ use borrow.Author.Needs.{needs}
 use borrow.Author.Tests.{lt-leb}
 use lib.ListN.{length, length-map}
 use Rattle.tables.specs.Sizes.{threads}
-use Rattle.tables.specs.Tables.{sizesOk, tablesOk}
+use Rattle.tables.specs.Editions.{present}
+use Rattle.tables.specs.Tables.{sizesOk, tablesIn}
 use Rattle.tables.proofs.Checked.{checked}
 use Rattle.tables.proofs.check.tables_ok.Statement.{statement}
 use Rattle.tables.proofs.check.tables_ok.Tie as tie
@@ -16,10 +17,10 @@ entries : (c : tie.Start) → length (c .args .s .list) ≡ threads
 entries c = search needs
 
 returns : tie.Need-returns
-unfolding tablesOk
+unfolding tablesIn
 returns c =
     let s = c .before .before .args .s in
-    rw (lt-leb (s .count) threads (c .if1 .taken), and-false (sizesOk s))
+    rw (lt-leb (s .count) threads (c .if1 .taken), and-false (sizesOk present s))
 
 seen-in-requires : tie.Need-seen-in-requires
 seen-in-requires c κs = search needs

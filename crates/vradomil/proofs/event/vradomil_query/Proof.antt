@@ -8,7 +8,7 @@ use lib.Dec.{ltb}
 use borrow.Author.Tests.{ltb-true}
 use Rattle.lists.proofs.Tests.{by-cases, and-left, and-right}
 use Rattle.tables.specs.Sizes.{processes, threadsPerProcess}
-use Rattle.rules.specs.Events.{waitingSet, panelOf, panel}
+use Rattle.rules.specs.Events.{waitingSet, panelOf, panelIn}
 use Rattle.kernel.proofs.Events.{shown, hidden}
 use Rattle.layout.specs.Layout.{tablesAt}
 use Rattle.vradomil.specs.Host.{packed}
@@ -45,7 +45,7 @@ add-result-2 : tie.Need-add-result-2
 add-result-2 c = record { fits = omega (arith, small c, low c) }
 
 returns : tie.Need-returns
-unfolding panel
+unfolding panelIn
 returns c =
     let j = c .before in
     let k = j .before in

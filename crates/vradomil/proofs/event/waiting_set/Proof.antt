@@ -10,7 +10,7 @@ use Rattle.tables.specs.declared.State.{State}
 use Rattle.tables.specs.declared.Thread.{Thread}
 use Rattle.tables.specs.Sizes.{threadsPerProcess}
 use Rattle.tables.specs.Tables.{threadNumber, threadOf}
-use Rattle.rules.specs.Events.{bitsBelow, waitingSet}
+use Rattle.rules.specs.Events.{bitsBelow, waitingIn}
 use Rattle.kernel.proofs.Events.{Bits, bits-start, bits-limit, bits-next}
 use Rattle.layout.specs.Layout.{stateAt, waitingAt}
 use Rattle.layout.proofs.Reading.{thread-read}
@@ -71,7 +71,7 @@ cast-result : tie.Need-cast-result Inv-loop μ-loop
 cast-result c = omega (arith, bits-limit (c .before .loop .inv), c .before .loop .inv .below)
 
 returns : tie.Need-returns Inv-loop μ-loop
-unfolding waitingSet
+unfolding waitingIn
 returns c =
     let g = c .before .before .before in
     let i : c .before .loop .i ≡ threadsPerProcess = omega (arith, c .before .loop .inv .within) in
