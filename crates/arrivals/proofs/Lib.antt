@@ -1,3 +1,5 @@
 pub mod Flags
-pub mod Searching
+pub mod Places
+pub mod TakingOut
+pub mod Splitting
 pub mod Theorems

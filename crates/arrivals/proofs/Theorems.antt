@@ -1,169 +1,88 @@
--- Request (v): what a search along the arrival list looks at.
-use mathlib.Core.Path.{_≡_, refl, sym, ap, subst, subst₂, _∙_}
-use mathlib.Core.Bool.{Bool, true, false, cond, or-true}
-use mathlib.Core.List.{List, [], _∷_, _++_, append-assoc}
-use Prim.Native.Nat.{ℕ, zero, suc, _+_, _-_, _≤_, _<_}
+-- What the definitions of specs/Arrivals.antt say of a list.
+use mathlib.Core.Path.{_≡_, refl, sym, ap, _∙_}
+use mathlib.Core.Bool.{Bool, true, false, not}
+use mathlib.Core.List.{List}
+use Prim.Native.Nat.{ℕ, _-_, _≤_, _<_}
 use native.Mathlib.Omega.{arith}
-use lib.ListN.{length, take, drop, getD, replicate, length-append, length-take, length-drop}
-use lib.Seq.{take-take, take-add, take-append-seam, drop-append-seam}
-use lib.Dec.{eqb, ltb}
-use borrow.Author.Tests.{ltb-true, ltb-false}
-use Rattle.lists.specs.Lists.{filter, elem, distinct, padTo, leftOver}
-use Rattle.lists.proofs.Tests.{cases, eqb-refl}
-use Rattle.lists.proofs.Filter.{filter-append}
-use Rattle.lists.proofs.Loops.{take-next}
-use Rattle.lists.proofs.Occurs.{elem-occurs, occurs-absent, occurs-take-drop, occurs-take-le, occurs-distinct, distinct-occurs}
+use lib.ListN.{length, take, getD, replicate, List·getD-append}
+use lib.Dec.{ltb}
+use borrow.Author.Tests.{ltb-true}
+use Rattle.lists.specs.Lists.{filter, all, elem, distinct, padTo}
+use Rattle.lists.proofs.Filter.{filter-alike}
+use Rattle.lists.proofs.Occurs.{elem-all, elem-getD}
+use Rattle.lists.proofs.Padded.{take-padded}
 use Rattle.arrivals.specs.Sizes.{threads, noEntry}
-use Rattle.arrivals.specs.Arrivals.{lookedAt, looks, ReachedAt, foundOf}
+use Rattle.arrivals.specs.Arrivals.{Numbers, Flags, flagged, Places, PlacedIn, Listing, Listed, splitOf}
+use Rattle.arrivals.proofs.Places.{place-absent, place-first, place-most, place-names}
 
--- "0 if the caps are 0"
-pub no-looks : (f : ℕ → Bool) (l : List ℕ) → looks f 0 l ≡ 0
-no-looks f [] = refl
-no-looks f (t ∷ l) = refl
+-- The parts of a list as they are stored: the first entries of each are the threads that pass, and the others.
+module _ (f : ℕ → Bool) (l : List ℕ) where
+  pub split-taken : take (splitOf f l .n) (splitOf f l .taken) ≡ filter f l
+  unfolding splitOf
+  split-taken = take-padded threads noEntry (filter f l)
 
--- "else the list's count": where fewer pass than may be taken
-pub all-looks : (f : ℕ → Bool) (n : ℕ) (l : List ℕ) → length (filter f l) < n → looks f n l ≡ length l
-all-looks f n [] h = refl
-all-looks f zero (t ∷ l) h = absurd (omega arith)
-all-looks f (suc n) (t ∷ l) h = cases (f t)
-    (λ e. let h' : suc (length (filter f l)) < suc n = rw e at h in cc (all-looks f n l (omega arith)))
-    (λ e. let h' : length (filter f l) < suc n = rw e at h in cc (all-looks f (suc n) l h'))
+  pub split-left : take (splitOf f l .count) (splitOf f l .left) ≡ filter (λ t. not (f t)) l
+  unfolding splitOf
+  split-left = take-padded threads noEntry (filter (λ t. not (f t)) l)
 
--- behind an entry, the place is the next
-reached-later : (f : ℕ → Bool) (n : ℕ) (t : ℕ) (l : List ℕ) (k : ℕ) → ReachedAt f n l k → ReachedAt f (cond (f t) (suc n) n) (t ∷ l) (suc k)
-reached-later f n t l k r =
-    let same : suc k - 1 ≡ suc (k - 1) = omega (arith, r .from-1) in
-    record {
-      from-1 = omega arith;
-      inside = omega (arith, r .inside);
-      passes = ap (λ j. f (getD (t ∷ l) j 0)) same ∙ r .passes;
-      as-the-last = cases (f t) (λ e. rw e (ap suc (r .as-the-last))) (λ e. rw e (r .as-the-last));
+  left-is : splitOf f l .left ≡ padTo threads noEntry (filter (λ t. not (f t)) l)
+  unfolding splitOf
+  left-is = refl
+
+  pub split-stored : splitOf f l .left ≡ padTo threads noEntry (take (splitOf f l .count) (splitOf f l .left))
+  split-stored = left-is ∙ ap (padTo threads noEntry) (sym split-left)
+
+  -- by flags that say which threads pass
+  pub split-flags : (flags : List Bool) → Flags flags f → all (λ t. ltb t threads) l ≡ true → splitOf (flagged flags) l ≡ splitOf f l
+  unfolding splitOf
+  split-flags flags say low =
+      let taken = filter-alike (flagged flags) f (λ t. ltb t threads) (λ t e. say t (ltb-true t threads e)) l low in
+      let left = filter-alike (λ t. not (flagged flags t)) (λ t. not (f t)) (λ t. ltb t threads) (λ t e. ap not (say t (ltb-true t threads e))) l low in
+      rw (taken, left)
+
+-- Where a list names threads alone, each of them stands at the place that is noted for it, and the others at none.
+module _ (l : List ℕ) (low : Bool) (place : List ℕ) (h : PlacedIn l low place) where
+  pub placed-low : low ≡ true → (t : ℕ) → elem t l ≡ true → t < threads
+  placed-low e t k = ltb-true t threads (elem-all (λ u. ltb u threads) l (sym (h .named) ∙ e) t k)
+
+  pub placed-other : low ≡ false → all (λ t. ltb t threads) l ≡ false
+  placed-other e = sym (h .named) ∙ e
+
+  pub placed-there : low ≡ true → (t : ℕ) → elem t l ≡ true → getD l (getD place t 0 - 1) 0 ≡ t
+  placed-there e t k = ap (λ p. getD l (p - 1) 0) (h .places e t (placed-low e t k)) ∙ place-names t l k
+
+  pub placed-within : low ≡ true → (t : ℕ) → elem t l ≡ true → (1 ≤ getD place t 0) × (getD place t 0 ≤ length l)
+  placed-within e t k =
+      let is = h .places e t (placed-low e t k) in
+      (omega (arith, is, place-first t l k), omega (arith, is, place-most t l))
+
+  pub placed-nowhere : low ≡ true → (t : ℕ) → t < threads → elem t l ≡ false → getD place t 0 ≡ 0
+  placed-nowhere e t b k = h .places e t b ∙ place-absent t l k
+
+-- What is asked of a list, and of threads that are to be taken out of it, is no more than this.
+module _ (l : List ℕ) (few : length l ≤ threads) (low : all (λ t. ltb t threads) l ≡ true) where
+  pub numbers-of : Numbers (padTo threads noEntry l) (length l)
+  numbers-of = record {
+    few = few;
+    below = λ k h.
+        let at = List·getD-append l (replicate (threads - length l) noEntry) 0 k h in
+        let named = ltb-true (getD l k 0) threads (elem-all (λ t. ltb t threads) l low (getD l k 0) (elem-getD l k 0 h)) in
+        omega (arith, at, named);
+  }
+
+  module _ (apart : distinct l ≡ true) (place : List ℕ) (places : Places place l) where
+    here : take (length l) (padTo threads noEntry l) ≡ l
+    here = take-padded threads noEntry l
+
+    pub listing-of : Listing (padTo threads noEntry l) (length l) place
+    listing-of = record {
+      stored = ap (padTo threads noEntry) (sym here);
+      few = few;
+      low = rw here low;
+      apart = rw here apart;
+      places = rw here places;
     }
 
--- "the place, from 1, of the entry that reached the last cap"
-pub looks-to-the-last : (f : ℕ → Bool) (n : ℕ) (l : List ℕ) → suc n ≤ length (filter f l) → ReachedAt f (suc n) l (looks f (suc n) l)
-looks-to-the-last f n [] h = absurd (omega arith)
-looks-to-the-last f zero (t ∷ l) h = cases (f t)
-    (λ e. let k : 1 ≡ looks f 1 (t ∷ l) = rw e (ap suc (sym (no-looks f l))) in
-    subst (ReachedAt f 1 (t ∷ l)) k (record { from-1 = omega arith; inside = omega arith; passes = e; as-the-last = rw e }))
-    (λ e. subst₂ (λ m k. ReachedAt f m (t ∷ l) k) (rw e) (rw e) (reached-later f 1 t l (looks f 1 l) (looks-to-the-last f zero l (rw e at h))))
-looks-to-the-last f (suc n) (t ∷ l) h = cases (f t)
-    (λ e. let h' : suc (suc n) ≤ suc (length (filter f l)) = rw e at h in
-    subst₂ (λ m k. ReachedAt f m (t ∷ l) k) (rw e) (rw e) (reached-later f (suc n) t l (looks f (suc n) l) (looks-to-the-last f n l (omega arith))))
-    (λ e. subst₂ (λ m k. ReachedAt f m (t ∷ l) k) (rw e) (rw e) (reached-later f (suc (suc n)) t l (looks f (suc (suc n)) l) (looks-to-the-last f (suc n) l (rw e at h))))
-
--- There is no other such place.
-reached-first : (f : ℕ → Bool) (n : ℕ) (l : List ℕ) (j k : ℕ) → ReachedAt f n l j → ReachedAt f n l k → k ≤ j
-reached-first f n l j k a b = cases (ltb j k)
-    (λ e.
-    let less = ltb-true j k e in
-    let i = k - 1 in
-    let next : k ≡ i + 1 = omega (arith, b .from-1) in
-    let one : length (filter f (take k l)) ≡ length (filter f (take i l)) + 1 =
-    ap (λ m. length (filter f (take m l))) next
-    ∙ ap (λ m. length (filter f m)) (take-next l i 0 (omega (arith, b .inside, b .from-1)))
-    ∙ ap length (filter-append f (take i l) (getD l i 0 ∷ []) ∙ ap (filter f (take i l) ++_) (rw (b .passes)))
-    ∙ length-append (filter f (take i l)) (getD l i 0 ∷ []) in
-    let sum : i ≡ j + (i - j) = omega arith in
-    let split : length (filter f (take i l)) ≡ length (filter f (take j l)) + length (filter f (take (i - j) (drop j l))) =
-    ap (λ m. length (filter f (take m l))) sum ∙ ap (λ m. length (filter f m)) (take-add j (i - j) l)
-    ∙ ap length (filter-append f (take j l) (take (i - j) (drop j l))) ∙ length-append (filter f (take j l)) (filter f (take (i - j) (drop j l))) in
-    absurd (omega (arith, a .as-the-last, b .as-the-last, one, split)))
-    (λ e. ltb-false j k e)
-
-pub reached-once : (f : ℕ → Bool) (n : ℕ) (l : List ℕ) (j k : ℕ) → ReachedAt f n l j → ReachedAt f n l k → j ≡ k
-reached-once f n l j k a b = omega (arith, reached-first f n l j k a b, reached-first f n l k j b a)
-
--- "look at no record twice": each entry up to that place is looked at once, in the list's order, and none behind it
-pub looked-at-once : (f : ℕ → Bool) (n : ℕ) (l : List ℕ) → lookedAt f n l ≡ take (looks f n l) l
-looked-at-once f n [] = refl
-looked-at-once f zero (t ∷ l) = refl
-looked-at-once f (suc n) (t ∷ l) = cases (f t)
-    (λ e. cc (looked-at-once f n l))
-    (λ e. cc (looked-at-once f (suc n) l))
-
--- so that, in a list that names no thread twice, no record is looked at twice
-pub none-twice : (f : ℕ → Bool) (n : ℕ) (l : List ℕ) → distinct l ≡ true → distinct (lookedAt f n l) ≡ true
-none-twice f n l h =
-    ap distinct (looked-at-once f n l)
-    ∙ occurs-distinct (take (looks f n l) l) (λ t. omega (arith, occurs-take-le (looks f n l) t l, distinct-occurs t l h))
-
--- and none that stands behind the last cap
-pub none-behind : (f : ℕ → Bool) (n : ℕ) (l : List ℕ) → distinct l ≡ true → (t : ℕ) → elem t (drop (looks f n l) l) ≡ true
-    → elem t (lookedAt f n l) ≡ false
-none-behind f n l h t e =
-    let k = looks f n l in
-    ap (elem t) (looked-at-once f n l)
-    ∙ occurs-absent t (take k l) (omega (arith, occurs-take-drop k t l, distinct-occurs t l h, elem-occurs t (drop k l) e))
-
--- what is looked at, taken and left hangs on no other entry
-record Alike (f g : ℕ → Bool) (n : ℕ) (l : List ℕ) : Type 0 where
-  seen : lookedAt g n l ≡ lookedAt f n l
-  taken : take n (filter g l) ≡ take n (filter f l)
-  left : leftOver g n l ≡ leftOver f n l
-
-alike : (f g : ℕ → Bool) (n : ℕ) (l : List ℕ) → ((t : ℕ) → elem t (lookedAt f n l) ≡ true → g t ≡ f t) → Alike f g n l
-alike f g n [] same = record { seen = refl; taken = refl; left = refl }
-alike f g zero (t ∷ l) same = record { seen = refl; taken = refl; left = refl }
-alike f g (suc n) (t ∷ l) same =
-    let here : g t ≡ f t = same t (rw (eqb-refl t)) in
-    cases (f t)
-    (λ e. let a = alike f g n l (λ u d. same u (rw (e, d) (or-true (eqb u t)))) in
-    record { seen = cc (a .seen); taken = cc (a .taken); left = cc (a .left) })
-    (λ e. let a = alike f g (suc n) l (λ u d. same u (rw (e, d) (or-true (eqb u t)))) in
-    record { seen = cc (a .seen); taken = cc (a .taken); left = cc (a .left) })
-
--- What is found hangs on no entry behind that place: whatever they would be, the same is released, moved and left, after as many looks.
-pub found-alone : (f g : ℕ → Bool) (cap cap2 : ℕ) (l : List ℕ) → ((t : ℕ) → elem t (lookedAt f (cap + cap2) l) ≡ true → g t ≡ f t)
-    → foundOf g cap cap2 l ≡ foundOf f cap cap2 l
-unfolding foundOf
-found-alone f g cap cap2 l same =
-    let a = alike f g (cap + cap2) l same in
-    let first : take cap (filter g l) ≡ take cap (filter f l) =
-    sym (take-take cap (cap + cap2) (filter g l) (omega arith)) ∙ ap (take cap) (a .taken) ∙ take-take cap (cap + cap2) (filter f l) (omega arith) in
-    let next : length (take cap2 (drop cap (filter g l))) ≡ length (take cap2 (drop cap (filter f l))) =
-    omega (
-      arith,
-      ap length (a .taken),
-      length-take (cap + cap2) (filter g l),
-      length-take (cap + cap2) (filter f l),
-      length-take cap2 (drop cap (filter g l)),
-      length-take cap2 (drop cap (filter f l)),
-      length-drop cap (filter g l),
-      length-drop cap (filter f l),
-    ) in
-    cc (a .seen, a .taken, a .left, first, next)
-
--- What a search hands back: whom it released, whom it moved, what is left of the list, and its looks.
-module _ (f : ℕ → Bool) (cap cap2 : ℕ) (l : List ℕ) where
-  abbrev rs : List ℕ
-  rs = take cap (filter f l)
-
-  abbrev ms : List ℕ
-  ms = take cap2 (drop cap (filter f l))
-
-  abbrev behind : List ℕ
-  behind = replicate (threads - length (rs ++ ms)) noEntry
-
-  pub taken-stored : foundOf f cap cap2 l .taken ≡ padTo threads noEntry (rs ++ ms)
-  unfolding foundOf
-  taken-stored = ap (padTo threads noEntry) (take-add cap cap2 (filter f l))
-
-  apart : foundOf f cap cap2 l .taken ≡ rs ++ (ms ++ behind)
-  apart = taken-stored ∙ append-assoc rs ms behind
-
-  pub found-released : take (foundOf f cap cap2 l .released) (foundOf f cap cap2 l .taken) ≡ take cap (filter f l)
-  found-released = ap (take (foundOf f cap cap2 l .released)) apart ∙ (unfold foundOf in take-append-seam rs (ms ++ behind))
-
-  pub found-moved : take (foundOf f cap cap2 l .moved) (drop (foundOf f cap cap2 l .released) (foundOf f cap cap2 l .taken)) ≡ take cap2 (drop cap (filter f l))
-  found-moved =
-      ap (λ ts. take (foundOf f cap cap2 l .moved) (drop (foundOf f cap cap2 l .released) ts)) apart
-      ∙ (unfold foundOf in ap (take (length ms)) (drop-append-seam rs (ms ++ behind)) ∙ take-append-seam ms behind)
-
-  pub found-left : take (foundOf f cap cap2 l .count) (foundOf f cap cap2 l .left) ≡ leftOver f (cap + cap2) l
-  unfolding foundOf
-  found-left = take-append-seam (leftOver f (cap + cap2) l) (replicate (threads - length (leftOver f (cap + cap2) l)) noEntry)
-
-  pub found-looks : foundOf f cap cap2 l .looks ≡ looks f (cap + cap2) l
-  unfolding foundOf
-  found-looks = refl
+    pub listed-of : (ts : List ℕ) (n : ℕ) → n ≤ threads → all (λ t. elem t l) (take n ts) ≡ true → distinct (take n ts) ≡ true
+        → Listed (padTo threads noEntry l) (length l) place ts n
+    listed-of ts n some each once = record { listing = listing-of; few = some; each = rw here each; apart = once }

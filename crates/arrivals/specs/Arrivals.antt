@@ -1,12 +1,12 @@
 -- What the functions on the arrival list compute.
 use mathlib.Core.Path.{_≡_}
-use mathlib.Core.Bool.{Bool, true, false, cond, _&&_}
+use mathlib.Core.Bool.{Bool, true, false, not, cond}
 use mathlib.Core.List.{List, [], _∷_}
-use Prim.Native.Nat.{ℕ, zero, suc, _+_, _-_, _≤_, _<_}
-use lib.ListN.{length, take, drop, getD}
-use lib.Dec.{ltb}
-use Rattle.lists.specs.Lists.{filter, all, elem, distinct, padTo, leftOver}
-use Rattle.arrivals.specs.declared.Found.{Found}
+use Prim.Native.Nat.{ℕ, suc, _-_, _≤_, _<_}
+use lib.ListN.{length, take, getD}
+use lib.Dec.{eqb, ltb}
+use Rattle.lists.specs.Lists.{filter, all, elem, bit, distinct, padTo}
+use Rattle.arrivals.specs.declared.Split.{Split}
 use Rattle.arrivals.specs.Sizes.{threads, noEntry}
 
 -- the first n entries are thread numbers
@@ -22,39 +22,45 @@ flagged flags t = getD flags t false
 abbrev pub Flags : List Bool → (ℕ → Bool) → Type 0
 Flags flags f = (t : ℕ) → t < threads → flagged flags t ≡ f t
 
--- "go along the list, look at no record twice, and stop at the last cap reached": the entries that a search looks at that may take n,
--- in their order. Each is looked at once, and the one that passes as the n-th is the last.
-abbrev pub lookedAt : (ℕ → Bool) → ℕ → List ℕ → List ℕ
-lookedAt f n [] = []
-lookedAt f zero (t ∷ l) = []
-lookedAt f (suc n) (t ∷ l) = t ∷ cond (f t) (lookedAt f n l) (lookedAt f (suc n) l)
+-- where a thread stands in the list, from 1; 0 where it does not, and of one that stands there twice the last
+abbrev pub placeOf : ℕ → List ℕ → ℕ
+placeOf t [] = 0
+placeOf t (x ∷ l) = cond (elem t l) (suc (placeOf t l)) (bit (eqb t x))
 
--- "It returns its looks": how many these are. That they are "the place, from 1, of the entry that reached the last cap, 0 if the caps are
--- 0, else the list's count": proofs/Theorems.antt.
-abbrev pub looks : (ℕ → Bool) → ℕ → List ℕ → ℕ
-looks f n l = length (lookedAt f n l)
+-- a number for each thread, where it stands
+abbrev pub Places : List ℕ → List ℕ → Type 0
+Places place l = (t : ℕ) → t < threads → getD place t 0 ≡ placeOf t l
 
--- "the place, from 1, of the entry that reached the last cap": k is the place of the entry that passes as the n-th
-pub record ReachedAt (f : ℕ → Bool) (n : ℕ) (l : List ℕ) (k : ℕ) : Type 0 where
-  pub from-1 : 1 ≤ k
-  pub inside : k ≤ length l
-  pub passes : f (getD l (k - 1) 0) ≡ true
-  pub as-the-last : length (filter f (take k l)) ≡ n
+-- whether a list names threads alone, and then where each stands
+pub record PlacedIn (l : List ℕ) (low : Bool) (place : List ℕ) : Type 0 where
+  pub named : low ≡ all (λ t. ltb t threads) l
+  pub places : low ≡ true → Places place l
 
--- "one search, for one word with its cap or caps": the first cap entries that pass are released, the next cap2 moved, the others left;
--- each list as it is stored, the moved behind the released
-unfoldable pub foundOf : (ℕ → Bool) → ℕ → ℕ → List ℕ → Found
-foundOf f cap cap2 l =
+-- the places once the entry at one of them is taken out
+abbrev pub MovedUp : List ℕ → ℕ → List ℕ → Type 0
+MovedUp place out r = (t : ℕ) → t < threads → getD r t 0 ≡ getD place t 0 - bit (ltb out (getD place t 0))
+
+-- the first count entries of a list as it is stored, thread numbers and no number twice; and where each stands
+pub record Listing (list : List ℕ) (count : ℕ) (place : List ℕ) : Type 0 where
+  pub stored : list ≡ padTo threads noEntry (take count list)
+  pub few : count ≤ threads
+  pub low : all (λ t. ltb t threads) (take count list) ≡ true
+  pub apart : distinct (take count list) ≡ true
+  pub places : Places place (take count list)
+
+-- and the first n threads of ts, each once, which stand there
+pub record Listed (list : List ℕ) (count : ℕ) (place ts : List ℕ) (n : ℕ) : Type 0 where
+  pub listing : Listing list count place
+  pub few : n ≤ threads
+  pub each : all (λ t. elem t (take count list)) (take n ts) ≡ true
+  pub apart : distinct (take n ts) ≡ true
+
+-- a list in two, as each part is stored
+unfoldable pub splitOf : (ℕ → Bool) → List ℕ → Split
+splitOf f l =
     record {
-      left = padTo threads noEntry (leftOver f (cap + cap2) l);
-      count = length (leftOver f (cap + cap2) l);
-      taken = padTo threads noEntry (take (cap + cap2) (filter f l));
-      released = length (take cap (filter f l));
-      moved = length (take cap2 (drop cap (filter f l)));
-      looks = looks f (cap + cap2) l;
+      left = padTo threads noEntry (filter (λ t. not (f t)) l);
+      count = length (filter (λ t. not (f t)) l);
+      taken = padTo threads noEntry (filter f l);
+      n = length (filter f l);
     }
-
--- which threads a list names, and whether they are thread numbers and all different
-pub record SeenIn (l : List ℕ) (ok : Bool) (marks : List Bool) : Type 0 where
-  pub sound : ok ≡ (all (λ t. ltb t threads) l && distinct l)
-  pub marked : Flags marks (λ t. elem t l)

@@ -1,13 +1,13 @@
-// Arrivals: the arrival list, the one search along it, entries joined to it, and what it names. It stands on lists.
+// Arrivals: the arrival list, where each thread stands in it, entries taken out of it and joined to it. It stands on lists.
 ghost use mathlib.Core.Path.{_≡_};
 ghost use mathlib.Core.Bool.{cond};
-ghost use Prim.Native.Nat.{_+_, _%_, _^_, _≤_, _<_, min};
+ghost use mathlib.Core.List.{_∷_, [], _++_};
+ghost use Prim.Native.Nat.{_+_, _-_, _%_, _≤_, _<_};
 ghost use lib.ListN.{take, drop};
 ghost use lib.Dec.{eqb, ltb};
-ghost use mathlib.Core.List.{_++_};
-ghost use Rattle.lists.specs.Lists.{all, padTo};
+ghost use Rattle.lists.specs.Lists.{all, bit, without, padTo};
 ghost use Rattle.arrivals.specs.Sizes.{threads, noEntry};
-ghost use Rattle.arrivals.specs.Arrivals.{Numbers, flagged, foundOf, SeenIn};
+ghost use Rattle.arrivals.specs.Arrivals.{Numbers, flagged, splitOf, PlacedIn, MovedUp, Listed};
 
 pub const PROCESSES: usize = 8;
 
@@ -18,17 +18,6 @@ pub const THREADS: usize = PROCESSES * THREADS_PER_PROCESS;
 // The entry of the arrival list that names no thread.
 pub const NO_ENTRY: u8 = 255;
 
-// What a search hands back: the list without the entries that it took; these in their order, first those that it released, then those
-// that it moved; and how many entries it looked at.
-pub struct Found {
-    pub left: [u8; THREADS],
-    pub count: usize,
-    pub taken: [u8; THREADS],
-    pub released: usize,
-    pub moved: usize,
-    pub looks: usize,
-}
-
 // An entry as an index; an entry of the list is a thread number, and is left as it is.
 pub fn index_of(e: u8) -> usize
     ensures { λ r. ⌜ r ≡ e % threads ⌝ }
@@ -36,111 +25,46 @@ pub fn index_of(e: u8) -> usize
     (e as usize) % THREADS
 }
 
-fn least(a: usize, b: usize) -> usize
-    ensures { λ r. ⌜ r ≡ min a b ⌝ }
+// One number or the other: a leaf, so that a loop has no branch on what the tables hold.
+pub fn either(test: bool, a: u8, b: u8) -> u8
+    ensures { λ r. ⌜ r ≡ cond test a b ⌝ }
 {
-    if a < b { a } else { b }
+    if test { a } else { b }
 }
 
-// Where a search ends that has taken n entries: here, if these are all that it may take, else at the end that it had.
-fn end_after(n: usize, most: usize, here: usize, end: usize) -> usize
-    ensures { λ r. ⌜ r ≡ cond (ltb n most) end here ⌝ }
+// 1 or 0.
+pub fn one_if(test: bool) -> usize
+    ensures { λ r. ⌜ (r ≡ bit test) × (r ≤ 1) ⌝ }
 {
-    if n < most { end } else { here }
+    if test { 1 } else { 0 }
 }
 
-// The list with n entries of another, from a place on, behind its own. A search hands it what it kept and the entries that it did not
-// look at; a requeue, of the tables and of their bytes, what the search left and whom it moved.
-pub fn joined(
-    list: [u8; THREADS],
-    count: usize,
-    others: [u8; THREADS],
-    from: usize,
-    n: usize,
-) -> [u8; THREADS]
-    requires { ⌜ (list ≡ padTo threads noEntry (take count list)) × ((count + n ≤ threads) × (from + n ≤ threads)) ⌝ }
-    ensures { λ r. ⌜ r ≡ padTo threads noEntry (take count list ++ take n (drop from others)) ⌝ }
-{
-    let mut all = list;
-    let mut i: usize = 0;
-    while i < n {
-        all[count + i] = others[from + i];
-        i += 1;
-    }
-    all
+// Where each thread stands in a list, from 1, and 0 where it does not; and whether the list names threads alone.
+pub struct Placed {
+    pub low: bool,
+    pub place: [u8; THREADS],
 }
 
-// The one search along the list: it takes the first entries whose flag is set, up to both caps, and looks at none behind the last of
-// them. The tables' changes hand it a list of thread numbers, and caps of a call.
-pub fn search(
-    list: [u8; THREADS],
-    count: usize,
-    flags: [bool; THREADS],
-    cap: usize,
-    cap2: usize,
-) -> Found
-    requires { ⌜ Numbers list count × (cap + cap2 < 2 ^ 64) ⌝ }
-    ensures { λ r. ⌜ r ≡ foundOf (flagged flags) cap cap2 (take count list) ⌝ }
-{
-    let most = cap + cap2;
-    let mut left = [NO_ENTRY; THREADS];
-    let mut taken = [NO_ENTRY; THREADS];
-    let mut w: usize = 0;
-    let mut n: usize = 0;
-    let mut end = end_after(0, most, 0, count);
-    let mut i: usize = 0;
-    while i < end {
-        let e = list[i];
-        if flags[e as usize] {
-            taken[n] = e;
-            n += 1;
-            end = end_after(n, most, i + 1, end);
-        } else {
-            left[w] = e;
-            w += 1;
-        }
-        i += 1;
-    }
-    let all = joined(left, w, list, i, count - i);
-    let rest = count - n;
-    let released = least(n, cap);
-    let moved = n - released;
-    Found {
-        left: all,
-        count: rest,
-        taken: taken,
-        released: released,
-        moved: moved,
-        looks: i,
-    }
-}
-
-// Which threads a list names, and whether it names thread numbers, each once.
-pub struct Seen {
-    pub ok: bool,
-    pub marks: [bool; THREADS],
-}
-
-// The table check calls it, and tail_ok, after its test of the count.
-pub fn seen_in(list: [u8; THREADS], count: usize) -> Seen
+// The table check calls it, and tail_ok, after its test of the count; by value the reader of a view does, too.
+pub fn places_in(list: [u8; THREADS], count: usize) -> Placed
     requires { ⌜ count ≤ threads ⌝ }
-    ensures { λ r. ⌜ SeenIn (take count list) (r .ok) (r .marks) ⌝ }
+    ensures { λ r. ⌜ PlacedIn (take count list) (r .low) (r .place) ⌝ }
 {
-    let mut ok = true;
-    let mut marks = [false; THREADS];
+    let mut low = true;
+    let mut place = [0u8; THREADS];
+    let mut k: u8 = 0;
     let mut i: usize = 0;
     while i < count {
         let e = list[i];
         let x = index_of(e);
-        let low = (e as usize) < THREADS;
-        let before = marks[x];
-        ok = ok & low & !before;
-        marks[x] = before | low;
+        low = low & ((e as usize) < THREADS);
+        k += 1;
+        place[x] = k;
         i += 1;
     }
-    Seen {
-        ok: ok,
-        marks: marks,
+    Placed {
+        low: low,
+        place: place,
     }
 }
 
@@ -159,4 +83,127 @@ pub fn tail_ok(list: [u8; THREADS], count: usize) -> bool
         i += 1;
     }
     ok
+}
+
+// The list without the entry at a place, from 1: those behind it move up, and the last names no thread.
+fn out_at(list: [u8; THREADS], place: u8) -> [u8; THREADS]
+    requires { ⌜ (1 ≤ place) × (place ≤ threads) ⌝ }
+    ensures { λ r. ⌜ r ≡ take (place - 1) list ++ (drop place list ++ (noEntry ∷ [])) ⌝ }
+{
+    let mut left = [NO_ENTRY; THREADS];
+    let mut k: u8 = 1;
+    let mut i: usize = 0;
+    while i < THREADS - 1 {
+        let here = list[i];
+        let next = list[i + 1];
+        left[i] = either(k < place, here, next);
+        k += 1;
+        i += 1;
+    }
+    left
+}
+
+// A place once the entry at another is taken out.
+fn up_one(place: u8, out: u8) -> u8
+    ensures { λ r. ⌜ r ≡ place - bit (ltb out place) ⌝ }
+{
+    if out < place { place - 1 } else { place }
+}
+
+// The places once the entry at one of them is taken out. relisted calls it, and so does what takes entries out of the list where it lies
+// (changes::out_all).
+pub fn moved_up(place: [u8; THREADS], out: u8) -> [u8; THREADS]
+    ensures { λ r. ⌜ MovedUp place out r ⌝ }
+{
+    let mut next = place;
+    let mut i: usize = 0;
+    while i < THREADS {
+        let up = up_one(place[i], out);
+        next[i] = up;
+        i += 1;
+    }
+    next
+}
+
+// The list with n entries of another, from a place on, written behind its first count.
+pub fn joined(
+    list: [u8; THREADS],
+    count: usize,
+    others: [u8; THREADS],
+    from: usize,
+    n: usize,
+) -> [u8; THREADS]
+    requires { ⌜ (count + n ≤ threads) × (from + n ≤ threads) ⌝ }
+    ensures { λ r. ⌜ r ≡ take count list ++ (take n (drop from others) ++ drop (count + n) list) ⌝ }
+{
+    let mut all = list;
+    let mut i: usize = 0;
+    while i < n {
+        all[count + i] = others[from + i];
+        i += 1;
+    }
+    all
+}
+
+// The list once the first n and the next m threads of ts are taken out of it, by where each thread stands, and the latter have joined its
+// end in their order.
+pub fn relisted(
+    list: [u8; THREADS],
+    count: usize,
+    place: [u8; THREADS],
+    ts: [u8; THREADS],
+    n: usize,
+    m: usize,
+) -> [u8; THREADS]
+    requires { ⌜ Listed list count place ts (n + m) ⌝ }
+    ensures { λ r. ⌜ r ≡ padTo threads noEntry (without (take (n + m) ts) (take count list) ++ take m (drop n ts)) ⌝ }
+{
+    let mut left = list;
+    let mut at = place;
+    let mut i: usize = 0;
+    while i < n + m {
+        let x = index_of(ts[i]);
+        let out = at[x];
+        let shorter = out_at(left, out);
+        left = shorter;
+        let up = moved_up(at, out);
+        at = up;
+        i += 1;
+    }
+    joined(left, count - (n + m), ts, n, m)
+}
+
+// A list in two: the entries that pass a test, and the others, each in their order.
+pub struct Split {
+    pub left: [u8; THREADS],
+    pub count: usize,
+    pub taken: [u8; THREADS],
+    pub n: usize,
+}
+
+// The threads of a list whose flag is set, and the others. A clock event calls it, on a list of thread numbers.
+pub fn split_by(list: [u8; THREADS], count: usize, flags: [bool; THREADS]) -> Split
+    requires { ⌜ Numbers list count ⌝ }
+    ensures { λ r. ⌜ r ≡ splitOf (flagged flags) (take count list) ⌝ }
+{
+    let mut left = [NO_ENTRY; THREADS];
+    let mut taken = [NO_ENTRY; THREADS];
+    let mut w: usize = 0;
+    let mut n: usize = 0;
+    let mut i: usize = 0;
+    while i < count {
+        let e = list[i];
+        let hit = flags[index_of(e)];
+        taken[n] = either(hit, e, NO_ENTRY);
+        left[w] = either(hit, NO_ENTRY, e);
+        n += one_if(hit);
+        w += one_if(!hit);
+        i += 1;
+    }
+    Split {
+        left: left,
+        count: w,
+        taken: taken,
+        n: n,
+    }
 }

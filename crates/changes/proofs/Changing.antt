@@ -13,10 +13,13 @@ use Rattle.tables.specs.Tables.{freshThread, threadOf, change, withThreads}
 use Rattle.tables.specs.Steps.{changedBy}
 use Rattle.tables.proofs.Changes.{length-change, change-none, changed-next}
 use Rattle.layout.specs.Layout.{tablesSize, tablesBytes}
-use Rattle.changes.specs.Change.{Whole, atThread, Writes}
+use Rattle.changes.specs.Change.{Whole, atThread, onList, Writes}
 
 pub whole-threads : (s : State) (rs : List Thread) → length rs ≡ threads → Whole s → Whole (withThreads rs s)
 whole-threads s rs size w = record { records = size; entries = w .entries }
+
+pub whole-list : (s : State) (l : List ℕ) → length l ≡ threads → Whole s → Whole (onList (λ x. l) s)
+whole-list s l size w = record { records = w .records; entries = size }
 
 pub whole-change : (f : Thread → Thread) (ts : List ℕ) (s : State) → Whole s → Whole (withThreads (change f ts (s .threads)) s)
 whole-change f ts s w = whole-threads s (change f ts (s .threads)) (length-change f ts (s .threads) ∙ w .records) w

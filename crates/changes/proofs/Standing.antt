@@ -19,6 +19,10 @@ use Rattle.changes.proofs.Writing.{sized}
 pub whole : (s : State) → tablesOk s ≡ true → Whole s
 whole s ok = let g = tables-sound s ok in record { records = g .records; entries = entries s g }
 
+pub list-in : (s : State) → Whole s → (b : List ℕ) → b ≡ tablesBytes s → take threads (drop listAt b) ≡ s .list
+unfolding tablesBytes
+list-in s w b is = ap (λ l. take threads (drop listAt l)) is ∙ column-read (columns s) (sized s w) 2 listAt threads (s .list) refl refl (w .entries)
+
 module _ (s : State) (b : List ℕ) (h : Stands s b) where
   abbrev shape : Whole s
   shape = whole s (h .sound)
@@ -28,8 +32,7 @@ module _ (s : State) (b : List ℕ) (h : Stands s b) where
   size-held = ap length (h .bytes) ∙ length-flatten (columns s) ∙ ap total (sized s shape)
 
   pub list-held : take threads (drop listAt b) ≡ s .list
-  unfolding tablesBytes
-  list-held = ap (λ l. take threads (drop listAt l)) (h .bytes) ∙ column-read (columns s) (sized s shape) 2 listAt threads (s .list) refl refl (shape .entries)
+  list-held = list-in s shape b (h .bytes)
 
   pub count-held : numberAt timeBytes countAt b ≡ s .count
   unfolding tablesBytes

@@ -18,7 +18,7 @@ use Rattle.tables.specs.Sizes.{threads, wordBytes}
 use Rattle.tables.specs.Tables.{freshThread, threadOf, withSleep, withLast, movedTo, withPriority, withThreads, withClock, setPriority}
 use Rattle.tables.proofs.Stored.{sets-priority}
 use Rattle.layout.specs.Layout.{timeBytes, column, Field, threadFields, columns, tablesBytes, lastByte, clockAt, countAt, listAt, waitingAt, timedAt, lastAt, uaddrAt, bitsetAt, deadlineAt, priorityAt}
-use Rattle.changes.specs.Change.{Whole, atThread}
+use Rattle.changes.specs.Change.{Whole, atThread, onList}
 use Rattle.layout.proofs.Columns.{length-column, column-set, column-same, before, put-column}
 use Rattle.layout.proofs.Exact.{sizes}
 
@@ -168,7 +168,22 @@ module _ (s : State) (w : Whole s) where
       rw one at (put-record i low new (false ∷ false ∷ false ∷ false ∷ false ∷ false ∷ true ∷ []) b is (refl, (refl, (refl, (refl, (refl, (refl, tt)))))))
       ∙ ap tablesBytes (sets-priority n i s new (w .records) low refl)
 
-  -- the list, or one entry of it, and the count
+  -- the list, some entries of it, or one, and the count
+  entries-in : (list b : List ℕ) → length list ≡ threads → b ≡ tablesBytes s → InColumns (sets b listAt list) (set (columns s) 2 list)
+  unfolding tablesBytes
+  entries-in list b long is =
+      put b (columns s) (set (columns s) 2 list) (record { stored = is; sized = sized }) 2 0 listAt list refl (omega (arith, long)) list (sets-all (s .list) list (w .entries ∙ sym long)) refl
+
+  pub entries-put : (list b : List ℕ) → length list ≡ threads → b ≡ tablesBytes s → sets b listAt list ≡ tablesBytes (onList (λ l. list) s)
+  unfolding tablesBytes
+  entries-put list b long is = entries-in list b long is .stored
+
+  pub part-put : (k : ℕ) (vs : List ℕ) → k + length vs ≤ threads → (b : List ℕ) → b ≡ tablesBytes s
+      → sets b (listAt + k) vs ≡ tablesBytes (onList (λ l. sets l k vs) s)
+  unfolding tablesBytes
+  part-put k vs fits b is =
+      put b (columns s) (set (columns s) 2 (sets (s .list) k vs)) (record { stored = is; sized = sized }) 2 k (listAt + k) vs refl fits (sets (s .list) k vs) refl refl .stored
+
   counted : (l : List ℕ) (b : List ℕ) (n : ℕ) → InColumns b (set (columns s) 2 l)
       → sets b countAt (bytes timeBytes n) ≡ tablesBytes (record { clock = s .clock; threads = s .threads; list = l; count = n })
   unfolding tablesBytes
@@ -179,8 +194,12 @@ module _ (s : State) (w : Whole s) where
       → sets (sets b listAt list) countAt (bytes timeBytes n) ≡ tablesBytes (record { clock = s .clock; threads = s .threads; list = list; count = n })
   unfolding tablesBytes
   list-put list n long b is =
-      counted list (sets b listAt list) n
-      (put b (columns s) (set (columns s) 2 list) (record { stored = is; sized = sized }) 2 0 listAt list refl (omega (arith, long)) list (sets-all (s .list) list (w .entries ∙ sym long)) refl)
+      counted list (sets b listAt list) n (entries-in list b long is)
+
+  pub count-put : (n : ℕ) (b : List ℕ) → b ≡ tablesBytes s
+      → sets b countAt (bytes timeBytes n) ≡ tablesBytes (record { clock = s .clock; threads = s .threads; list = s .list; count = n })
+  unfolding tablesBytes
+  count-put n b is = counted (s .list) b n (record { stored = is; sized = sized })
 
   pub entry-put : (k t n : ℕ) → k < threads → (b : List ℕ) → b ≡ tablesBytes s
       → sets (set b (listAt + k) t) countAt (bytes timeBytes n) ≡ tablesBytes (record { clock = s .clock; threads = s .threads; list = set (s .list) k t; count = n })

@@ -1,20 +1,23 @@
-// Changes: the changes of the tables, on their bytes where they lie. It stands on layout.
+// Changes: what a call reads of its process, and the changes of the tables, on their bytes where they lie. It stands on layout and views.
 ghost use mathlib.Core.Path.{_≡_};
 ghost use mathlib.Core.Bool.{false};
-ghost use Prim.Native.Nat.{_+_, _<_};
+ghost use mathlib.Core.List.{[], _∷_, _++_};
+ghost use Prim.Native.Nat.{_+_, _-_, _≤_, _<_};
 ghost use lib.ListN.{length, take, drop};
-ghost use Rattle.lists.specs.Lists.{bit};
+ghost use Rattle.lists.specs.Lists.{bit, without, padTo};
+ghost use Rattle.arrivals.specs.Arrivals.{Listed};
 ghost use Rattle.tables.specs.declared.Change.the-variants.{End, MoveTo};
-ghost use Rattle.tables.specs.Sizes.{threads};
-ghost use Rattle.tables.specs.Tables.{threadOf, change, withThreads, withSleep, ended, asleepAt, fallAsleep, setPriority};
-ghost use Rattle.tables.specs.Steps.{Numbers, changedBy, flagged, endFirst, requeueFirst};
+ghost use Rattle.tables.specs.Sizes.{processes, threads, noEntry};
+ghost use Rattle.tables.specs.Tables.{threadOf, arrivals, change, withThreads, withSleep, ended, asleepAt, fallAsleep, endSleeps, moveSleeps, setPriority};
+ghost use Rattle.tables.specs.Steps.{Numbers, Places, changedBy, Taking};
+ghost use Rattle.views.specs.Views.{Views};
 ghost use Rattle.layout.specs.Layout.{lastByte, tablesSize, stateAt, tablesBytes};
 ghost use Rattle.layout.specs.Check.{Held};
-ghost use Rattle.changes.specs.Change.{atThread, Writes, Standing, endFound, WritesTaken, WritesRequeued};
-use arrivals::Found;
+ghost use Rattle.changes.specs.Change.{atThread, onList, Writes, endSplit};
+use arrivals::Split;
+use arrivals::either;
 use arrivals::index_of;
-use arrivals::joined;
-use arrivals::search;
+use arrivals::moved_up;
 use layout::BITSET_AT;
 use layout::COUNT_AT;
 use layout::DEADLINE_AT;
@@ -26,13 +29,43 @@ use layout::TIMED_AT;
 use layout::UADDR_AT;
 use layout::WAITING_AT;
 use layout::WORD_SIZE;
-use layout::read::list_at;
 use numbers::put_u32;
 use numbers::put_u64;
+use numbers::u32_at;
 use numbers::u64_at;
 use tables::LastAnswer;
+use tables::State;
 use tables::THREADS;
 use tables::stored_deadline;
+use views::View;
+
+// What a call reads of its own process; place says where each thread stands in the arrival list. It is called on tables that keep the
+// rules.
+pub fn view_at(b: &[u8], process: usize, place: [u8; THREADS]) -> View
+    requires { ⌜ Held (now b) × ((process < processes) × Places place (arrivals (stateAt (now b)))) ⌝ }
+    ensures { λ r. ⌜ Views process (stateAt (now (b .entry))) r ⌝ }
+{
+    let base = State::THREADS_PER_PROCESS * process;
+    let mut at = [0u8; State::THREADS_PER_PROCESS];
+    let mut uaddr = [0u32; State::THREADS_PER_PROCESS];
+    let mut bitset = [0u32; State::THREADS_PER_PROCESS];
+    let mut priority = [0u8; State::THREADS_PER_PROCESS];
+    let mut i: usize = 0;
+    while i < State::THREADS_PER_PROCESS {
+        let t = base + i;
+        at[i] = place[t];
+        uaddr[i] = u32_at(b, UADDR_AT + WORD_SIZE * t);
+        bitset[i] = u32_at(b, BITSET_AT + WORD_SIZE * t);
+        priority[i] = b[PRIORITY_AT + t];
+        i += 1;
+    }
+    View {
+        place: at,
+        uaddr: uaddr,
+        bitset: bitset,
+        priority: priority,
+    }
+}
 
 fn flag_byte(x: bool) -> u8
     ensures { λ r. ⌜ r ≡ bit x ⌝ }
@@ -130,63 +163,88 @@ fn move_all(b: &mut [u8], ts: [u8; THREADS], from: usize, n: usize, uaddr: u32)
     }
 }
 
-// Whom a search released runs, with the answer, and the list is what it left; how many. It is called with what a search found.
-pub fn end_found(b: &mut [u8], found: Found, last: LastAnswer) -> u32
-    requires { ⌜ (length (now b) ≡ tablesSize) × Numbers (found .taken) (found .released) ⌝ }
-    ensures { λ r. ⌜ (r ≡ found .released) × Writes (endFound found last) (now (b .entry)) (now (b .exit)) ⌝ }
+// Those of a split who pass run, with the answer, and the list is what is left; how many. A clock event calls it.
+pub fn end_split(b: &mut [u8], parts: Split, last: LastAnswer) -> u32
+    requires { ⌜ (length (now b) ≡ tablesSize) × Numbers (parts .taken) (parts .n) ⌝ }
+    ensures { λ r. ⌜ (r ≡ parts .n) × Writes (endSplit parts last) (now (b .entry)) (now (b .exit)) ⌝ }
 {
-    let taken = found.taken;
-    end_all(b, taken, found.released, last);
-    let left = found.left;
-    put_list(b, left, found.count);
-    found.released as u32
+    let taken = parts.taken;
+    end_all(b, taken, parts.n, last);
+    let left = parts.left;
+    put_list(b, left, parts.count);
+    parts.n as u32
 }
 
-// The first cap sleepers whose flag is set end their sleep with the answer; how many. This and the functions below are called on
-// tables that keep the rules.
-pub fn end_first(b: &mut [u8], flags: [bool; THREADS], cap: usize, last: LastAnswer) -> u32
-    requires { ⌜ Standing (now b) ⌝ }
-    ensures { λ r. ⌜ WritesTaken (endFirst last (flagged flags) cap) (now (b .entry)) r (now (b .exit)) ⌝ }
+// Takes the entry at a place, from 1, out of the arrival list where it lies: those behind it move up. All entries are gone through, so
+// that the loop is the same whatever the place; the last turn reads the byte behind the list, over which the filler is laid.
+fn take_out(b: &mut [u8], place: u8)
+    requires { ⌜ (length (now b) ≡ tablesSize) × ((1 ≤ place) × (place ≤ threads)) ⌝ }
+    ensures { λ _. ⌜ Writes (onList (λ l. take (place - 1) l ++ (drop place l ++ (noEntry ∷ [])))) (now (b .entry)) (now (b .exit)) ⌝ }
 {
-    let list = list_at(b);
-    let count = u64_at(b, COUNT_AT) as usize;
-    let found = search(list, count, flags, cap, 0);
-    end_found(b, found, last)
-}
-
-// How many sleepers a requeue released, and how many it moved.
-pub struct Counts {
-    pub released: u32,
-    pub moved: u32,
-}
-
-// One search for a requeue: the first cap sleepers whose flag is set are released, the next cap2 move to the address and to the end of
-// the list.
-pub fn requeue_first(
-    b: &mut [u8],
-    flags: [bool; THREADS],
-    cap: u32,
-    cap2: u32,
-    uaddr: u32,
-) -> Counts
-    requires { ⌜ Standing (now b) ⌝ }
-    ensures { λ r. ⌜ WritesRequeued (requeueFirst uaddr (flagged flags) cap cap2) (now (b .entry)) r (now (b .exit)) ⌝ }
-{
-    let list = list_at(b);
-    let count = u64_at(b, COUNT_AT) as usize;
-    let found = search(list, count, flags, cap as usize, cap2 as usize);
-    let taken = found.taken;
-    end_all(b, taken, found.released, LastAnswer::Woken);
-    move_all(b, taken, found.released, found.moved, uaddr);
-    let left = found.left;
-    let all = joined(left, found.count, taken, found.released, found.moved);
-    put_list(b, all, found.count + found.moved);
-    let released = found.released as u32;
-    let moved = found.moved as u32;
-    Counts {
-        released: released,
-        moved: moved,
+    let mut k: u8 = 1;
+    let mut i: usize = 0;
+    while i < THREADS {
+        let here = b[LIST_AT + i];
+        let next = b[LIST_AT + i + 1];
+        b[LIST_AT + i] = either(k < place, here, next);
+        k += 1;
+        i += 1;
     }
+    b[LIST_AT + THREADS - 1] = State::NO_ENTRY;
+}
+
+// The first n threads of ts are taken out of the list, by where each stands.
+fn out_all(b: &mut [u8], place: [u8; THREADS], ts: [u8; THREADS], n: usize)
+    requires { ⌜ Held (now b) × Listed (stateAt (now b) .list) (stateAt (now b) .count) place ts n ⌝ }
+    ensures { λ _. ⌜ now (b .exit) ≡ tablesBytes (onList (λ l. padTo threads noEntry (without (take n ts) (take (stateAt (now (b .entry)) .count) l))) (stateAt (now (b .entry)))) ⌝ }
+{
+    let mut at = place;
+    let mut i: usize = 0;
+    while i < n {
+        let x = index_of(ts[i]);
+        let out = at[x];
+        take_out(b, out);
+        let up = moved_up(at, out);
+        at = up;
+        i += 1;
+    }
+}
+
+// m threads of ts, from a place on, behind the first `end` entries of the list.
+fn join_all(b: &mut [u8], end: usize, ts: [u8; THREADS], from: usize, m: usize)
+    requires { ⌜ (length (now b) ≡ tablesSize) × ((end + m ≤ threads) × (from + m ≤ threads)) ⌝ }
+    ensures { λ _. ⌜ Writes (onList (λ l. take end l ++ (take m (drop from ts) ++ drop (end + m) l))) (now (b .entry)) (now (b .exit)) ⌝ }
+{
+    let mut j: usize = 0;
+    while j < m {
+        b[LIST_AT + end + j] = ts[from + j];
+        j += 1;
+    }
+}
+
+// The first n threads of ts end their sleep with the answer, the next m move to the address and to the end of the list; place says where
+// each thread stands in it. This and the function below are called on tables that keep the rules. Of nobody, no byte is written.
+pub fn take(
+    b: &mut [u8],
+    place: [u8; THREADS],
+    ts: [u8; THREADS],
+    n: usize,
+    last: LastAnswer,
+    m: usize,
+    uaddr: u32,
+)
+    requires { ⌜ Held (now b) × Taking place ts (n + m) (stateAt (now b)) ⌝ }
+    ensures { λ _. ⌜ now (b .exit) ≡ tablesBytes (moveSleeps uaddr (take m (drop n ts)) (endSleeps last (take n ts) (stateAt (now (b .entry))))) ⌝ }
+{
+    if n + m == 0 {
+        return;
+    }
+    let count = u64_at(b, COUNT_AT) as usize;
+    out_all(b, place, ts, n + m);
+    end_all(b, ts, n, last);
+    move_all(b, ts, n, m, uaddr);
+    join_all(b, count - (n + m), ts, n, m);
+    put_u64(b, COUNT_AT, (count - n) as u64);
 }
 
 // A running thread sleeps, and joins the end of the list, where there is room, since it is not there yet. It is called for a caller that

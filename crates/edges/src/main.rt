@@ -1,10 +1,9 @@
-// Edges: runs a script of events, searches and probes on the kernel, and prints what happened. It stands on kernel.
+// Edges: runs a script of events and probes on the kernel, and prints what happened. It stands on kernel.
 ghost use Prim.Native.Nat.{_+_, _≤_};
 ghost use Rattle.tables.specs.Sizes.{memoryWords};
 
 mod print;
 mod script;
-mod searches;
 
 use kernel::event::apply;
 use tables::State;
@@ -23,8 +22,6 @@ const FRESH: u8 = 70;
 const LEND: u8 = 77;
 
 const POKE: u8 = 80;
-
-const SEARCH: u8 = 83;
 
 const WORD: u8 = 87;
 
@@ -72,9 +69,6 @@ fn turn(s: State, words: &mut [u32], kind: u8, b: [u8; 32]) -> State {
     }
     if kind == DUMP {
         print::tables(s);
-    }
-    if kind == SEARCH {
-        searches::show(s, b);
     }
     s
 }

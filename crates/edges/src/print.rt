@@ -1,8 +1,6 @@
 // What a script prints: answers, words and tables.
 use crate::script::last_code;
-use arrivals::Found;
 use rules::answer::Answer;
-use rules::answer::Errno;
 use rules::answer::Reason;
 use tables::State;
 use tables::THREADS;
@@ -33,11 +31,6 @@ fn reason(r: Reason) {
         text(b" reason");
         spaced(n as u64);
     }
-}
-
-pub(crate) fn error(e: Errno) {
-    text(b"-");
-    line(e.number() as u64);
 }
 
 pub(crate) fn answer(a: Answer) {
@@ -121,37 +114,4 @@ pub(crate) fn tables(s: State) {
     text(b"\n");
     list(s);
     threads(s);
-}
-
-// n entries of a list, from a place on.
-fn entries(list: [u8; THREADS], from: usize, n: usize) {
-    let mut before = from;
-    let mut left = n;
-    let mut i: usize = 0;
-    while i < THREADS {
-        if before > 0 {
-            before -= 1;
-        } else {
-            if left > 0 {
-                spaced(list[i] as u64);
-                left -= 1;
-            }
-        }
-        i += 1;
-    }
-}
-
-// What a search hands back.
-pub(crate) fn found(f: Found) {
-    let taken = f.taken;
-    let left = f.left;
-    text(b"looks");
-    spaced(f.looks as u64);
-    text(b" released");
-    entries(taken, 0, f.released);
-    text(b" moved");
-    entries(taken, f.released, f.moved);
-    text(b" left");
-    entries(left, 0, f.count);
-    text(b"\n");
 }

@@ -21,8 +21,8 @@ use Rattle.rules.specs.declared.answer.Refusal.{Refusal}
 use Rattle.rules.specs.declared.answer.Errno.the-variants.{ENXIO, EBADF}
 use Rattle.rules.specs.declared.answer.Verdict.the-variants.{Refuse}
 use Rattle.rules.specs.declared.answer.Answer.the-variants.{Refused}
-use Rattle.rules.specs.Answers.{plain, Outcome, outcome, isRefused}
-use Rattle.rules.specs.Calls.{noProcess}
+use Rattle.rules.specs.Answers.{plain, first, Outcome, outcome, isRefused}
+use Rattle.rules.specs.Calls.{firstRows, noProcess}
 use Rattle.rules.specs.Events.{isQuery, step, waitingSet, panelOf, panelIn, panel}
 use Rattle.rules.specs.History.{final, answers}
 use Rattle.rules.proofs.ByEvent.{by-query}
@@ -33,10 +33,10 @@ use Rattle.layout.proofs.Reading.{clock-read, thread-read}
 use Rattle.layout.proofs.Exact.{words-exact}
 use Rattle.layout.proofs.Checks.{wrong-size, held}
 use Rattle.changes.specs.Change.{FitsThread, Fits}
-use Rattle.vradomil.specs.Host.{seen, hostNumber, packed, BuffersJudged}
+use Rattle.vradomil.specs.Host.{seen, hostNumber, packed}
 use Rattle.vradomil.proofs.Memory.{words-length, word-fits}
-use Rattle.vradomil.proofs.FirstRows.{refused-memory, refused-tables}
-use Rattle.vradomil.proofs.Steps.{event-refused}
+use Rattle.vradomil.proofs.FirstRows.{memory-row, tables-row}
+use Rattle.vradomil.proofs.Steps.{row-refused}
 use Rattle.hosting.specs.Hosts.{Hosted, Heard, hearsAll, HostRuns, over, next}
 use Rattle.hosting.proofs.Hosting.{Stand, seen-is, stepped, asked, refused-stays}
 use Rattle.hosting.proofs.Heard.{heard-is}
@@ -64,7 +64,7 @@ module _ (b : List ℕ) (size : length b ≡ tablesSize) (low : Bytes b) where
 -- bytes that the first two rows refuse
 pub record Unfit (b m : List ℕ) : Type 0 where
   pub refusal : Refusal
-  pub judged : BuffersJudged b m (Refuse refusal)
+  pub judged : Refuse refusal ≡ first (firstRows (seen b m))
 
 abbrev pub Lent : List ℕ → List ℕ → Type 0
 Lent b m = Stand b m (seen b m) ⊎ Unfit b m
@@ -87,8 +87,8 @@ module _ (b m : List ℕ) (lb : Bytes b) (lm : Bytes m) where
   pub lent : Lent b m
   lent = cases (eqb (length m) memorySize)
       (λ e. let size = eqb-true (length m) memorySize e in
-      cases (tablesOk (tablesAt b)) (λ ok. inl (fit size (held-if ok))) (λ bad. inr (record { refusal = plain EBADF; judged = refused-tables b m size bad })))
-      (λ e. inr (record { refusal = plain ENXIO; judged = refused-memory b m (eqb-false (length m) memorySize e) }))
+      cases (tablesOk (tablesAt b)) (λ ok. inl (fit size (held-if ok))) (λ bad. inr (record { refusal = plain EBADF; judged = tables-row b m size bad })))
+      (λ e. inr (record { refusal = plain ENXIO; judged = memory-row b m (eqb-false (length m) memorySize e) }))
 
 -- an event on refused bytes leaves them, and the rules leave the world
 record Same (e : Event) (b m b1 m1 : List ℕ) : Type 0 where
@@ -98,7 +98,7 @@ record Same (e : Event) (b m b1 m1 : List ℕ) : Type 0 where
 
 module _ (e : Event) {b m : List ℕ} (u : Unfit b m) (some : isQuery e ≡ false) where
   refused-step : step e (seen b m) ≡ outcome (Refused (u .refusal)) (seen b m)
-  refused-step = step-refused e (seen b m) (u .refusal) (event-refused e b m (Refuse (u .refusal)) (u .judged) some (u .refusal) refl)
+  refused-step = step-refused e (seen b m) (u .refusal) (row-refused e b m some (u .refusal) (u .judged))
 
   pub refused-number : {lent b1 m1 told : List ℕ} {r : ℤ} → Hosted e b m lent r b1 m1 told → r ≡ hostNumber (Refused (u .refusal))
   refused-number h = h .number ∙ ap (λ (o : Outcome). hostNumber (o .answer)) refused-step
@@ -120,10 +120,10 @@ not-query = by-query (λ e. ((p : ℕ) → e ≡ Query p → ⊥) → isQuery e 
 -- words of another length, and tables of another length
 module _ {e : Event} {b m lent b1 m1 told : List ℕ} {r : ℤ} (h : Hosted e b m lent r b1 m1 told) (some : (p : ℕ) → e ≡ Query p → ⊥) where
   pub wrong-memory : (length m ≡ memorySize → ⊥) → r ≡ hostNumber (Refused (plain ENXIO))
-  wrong-memory other = refused-number e (record { refusal = plain ENXIO; judged = refused-memory b m other }) (not-query e some) h
+  wrong-memory other = refused-number e (record { refusal = plain ENXIO; judged = memory-row b m other }) (not-query e some) h
 
   pub wrong-tables : length m ≡ memorySize → (length b ≡ tablesSize → ⊥) → r ≡ hostNumber (Refused (plain EBADF))
-  wrong-tables size other = refused-number e (record { refusal = plain EBADF; judged = refused-tables b m size (wrong-size b other) }) (not-query e some) h
+  wrong-tables size other = refused-number e (record { refusal = plain EBADF; judged = tables-row b m size (wrong-size b other) }) (not-query e some) h
 
 pub wrong-panel : (p : ℕ) (b : List ℕ) → (length b ≡ tablesSize → ⊥) → packed (panel p (tablesAt b)) ≡ packed (panelOf 0)
 unfolding panelIn

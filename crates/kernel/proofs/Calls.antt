@@ -10,7 +10,7 @@ use Rattle.tables.specs.Sizes.{bytesPerProcess}
 use Rattle.rules.specs.Commands.{commandOf}
 use Rattle.rules.specs.Events.{refusals}
 use Rattle.tables.specs.Tables.{world}
-use Rattle.effects.specs.Ready.{Granted}
+use Rattle.plans.specs.Ready.{Granted}
 use Rattle.tables.proofs.Sound.{sound-tables}
 use Rattle.rules.proofs.Passed.{clear-passed, uaddr2-inside}
 

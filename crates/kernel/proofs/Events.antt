@@ -7,13 +7,12 @@ use native.Mathlib.Nat.{pow-suc, one-mul, zero-mul}
 use native.Mathlib.Omega.{arith}
 use native.Mathlib.Numerals.{add-one}
 use lib.Pow.{pow-mono}
-use lib.ListN.{length, take, set, replicate}
-use lib.Seq.{take-all}
+use lib.ListN.{length, set, replicate}
 use lib.Dec.{eqb, ltb, leb}
 use borrow.Author.Tests.{ltb-true, ltb-false, lt-leb, le-leb}
 use Rattle.lists.specs.Lists.{filter, bit}
 use Rattle.lists.proofs.Tests.{cases, clash, and-intro, and-left, and-right, bit-choice, eqb-refl}
-use Rattle.lists.proofs.Filter.{length-filter, getD-replicated}
+use Rattle.lists.proofs.Filter.{getD-replicated}
 use Rattle.lists.proofs.Occurs.{filter-same}
 use Rattle.tables.specs.declared.State.{State}
 use Rattle.tables.specs.declared.Taken.{Taken}
@@ -21,24 +20,22 @@ use Rattle.tables.specs.declared.LastAnswer.the-variants.{TimedOut, Interrupted
 use Rattle.rules.specs.declared.answer.Answer.the-variants.{Count}
 use Rattle.tables.specs.Sizes.{processes, threadsPerProcess, threads}
 use Rattle.tables.specs.Tables.{world, World, threadOf, tablesOk, arrivals, expired, expiredSleepers, withClock, endIn, endSleeps}
-use Rattle.tables.specs.Steps.{Flags, flagged, endFirst}
+use Rattle.tables.specs.Steps.{Flags, flagged, endFlagged}
 use Rattle.rules.specs.Answers.{answered}
 use Rattle.rules.specs.Events.{bitsBelow, waitingSet, clockEffect, interruptEffect}
-use Rattle.tables.proofs.Sound.{Sound, arrivals-fit}
+use Rattle.tables.proofs.Sound.{Sound}
 use Rattle.arrivals.proofs.Flags.{flags-set}
 use Rattle.tables.proofs.Stored.{end-nobody, flagged-listed}
 
--- the clock: everybody whose deadline has come, since the cap is the whole list
-pub clock-ends : (now : ℕ) (s : State) (ws : List ℕ) → Sound s → (f : ℕ → Bool) → filter f (arrivals s) ≡ expiredSleepers now s
-    → (taken : Taken) → taken ≡ endFirst TimedOut f threads s
+-- the clock: everybody whose deadline has come
+pub clock-ends : (now : ℕ) (s : State) (ws : List ℕ) → (f : ℕ → Bool) → filter f (arrivals s) ≡ expiredSleepers now s
+    → (taken : Taken) → taken ≡ endFlagged TimedOut f s
     → record { answer = Count (taken .n); state = withClock now (taken .state) }
     ≡ answered (clockEffect now (world s ws))
-unfolding clockEffect endFirst endIn
-clock-ends now s ws g f due taken is =
-    let all : take threads (filter f (arrivals s)) ≡ expiredSleepers now s =
-    take-all threads (filter f (arrivals s)) (omega (arith, length-filter f (arrivals s), arrivals-fit s g)) ∙ due in
+unfolding clockEffect endFlagged endIn
+clock-ends now s ws f due taken is =
     ap (λ (v : Taken). record { answer = Count (v .n); state = withClock now (v .state) })
-    (is ∙ ap (λ l. record { state = endSleeps TimedOut l s; n = length l }) all)
+    (is ∙ ap (λ l. record { state = endSleeps TimedOut l s; n = length l }) due)
 
 -- flags that say whose deadline has come
 pub due-flagged : (now : ℕ) (s : State) → Sound s → (flags : List Bool) → Flags flags (λ t. expired now (threadOf s t))
@@ -51,11 +48,11 @@ one-flag : (t : ℕ) → t < threads → Flags (set (replicate threads false) t 
 one-flag t low u h = flags-set (replicate threads false) (λ u. eqb u t) t true low (sym (eqb-refl t)) u (λ e. getD-replicated threads u false ∙ sym e)
 
 pub interrupt-ends : (t : ℕ) (s : State) (ws : List ℕ) → Sound s → t < threads → (taken : Taken)
-    → taken ≡ endFirst Interrupted (flagged (set (replicate threads false) t true)) 1 s
+    → taken ≡ endFlagged Interrupted (flagged (set (replicate threads false) t true)) s
     → record { answer = Count (taken .n); state = taken .state } ≡ answered (interruptEffect t (world s ws))
-unfolding interruptEffect endFirst
+unfolding interruptEffect endFlagged
 interrupt-ends t s ws g low taken is =
-    ap (λ (v : Taken). record { answer = Count (v .n); state = v .state }) (is ∙ ap (λ l. record { state = endSleeps Interrupted (take 1 l) s; n = length (take 1 l) }) found)
+    ap (λ (v : Taken). record { answer = Count (v .n); state = v .state }) (is ∙ ap (λ l. record { state = endSleeps Interrupted l s; n = length l }) found)
     ∙ cases (threadOf s t .waiting)
     (λ e. rw e)
     (λ e. rw e (ap (λ v. record { answer = Count 0; state = v }) (end-nobody Interrupted s g)))

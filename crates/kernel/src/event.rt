@@ -50,7 +50,7 @@ pub fn set_clock(s: State, words: &[u32], time: u64) -> Answered
         Verdict::Refuse(x) => refused(x, s),
         Verdict::Pass => {
             let flags = s.expired(time);
-            let taken = s.end_first(flags, THREADS, LastAnswer::TimedOut);
+            let taken = s.end_flagged(flags, LastAnswer::TimedOut);
             let mut next = taken.state;
             next.clock = time;
             counted(taken.n, next)
@@ -69,7 +69,7 @@ pub fn interrupt(s: State, words: &[u32], process: u8, index: u8) -> Answered
             let t = thread_index(process, index);
             let mut flags = [false; THREADS];
             flags[t] = true;
-            let taken = s.end_first(flags, 1, LastAnswer::Interrupted);
+            let taken = s.end_flagged(flags, LastAnswer::Interrupted);
             let next = taken.state;
             counted(taken.n, next)
         }

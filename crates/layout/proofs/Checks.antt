@@ -1,26 +1,28 @@
--- The passes over the bytes say that they stand for tables, and that these keep the rules.
+-- The passes over the bytes say that they stand for tables, that these keep the rules, and up to which time nobody is due.
 use mathlib.Core.Path.{_≡_, refl, sym, ap, _∙_}
 use mathlib.Core.Bool.{Bool, true, false, not, cond, _&&_, _||_, Bool·beq, and-assoc, and-comm, and-true, and-false, or-true}
-use mathlib.Core.List.{List}
+use mathlib.Core.List.{List, []}
 use Prim.Native.Nat.{ℕ, zero, suc, _+_, _≤_, _<_}
 use native.Mathlib.Omega.{arith}
 use lib.ListN.{length, drop, getD, length-drop}
 use lib.Seq.{length-take-le}
-use lib.Dec.{eqb, leb}
-use borrow.Author.Tests.{lt-leb, eq-eqb, ne-eqb}
-use Rattle.lists.specs.Lists.{everyBelow}
+use lib.Dec.{eqb, leb, ltb}
+use borrow.Author.Tests.{lt-leb, lt-ltb, ltb-true, eq-eqb, ne-eqb}
+use Rattle.lists.specs.Lists.{filter, everyBelow, countBelow}
 use Rattle.lists.specs.LittleEndian.{Bytes}
 use Rattle.lists.proofs.Tests.{cases, and-left, and-right}
-use Rattle.lists.proofs.Count.{everyBelow-ext, everyBelow-and}
+use Rattle.lists.proofs.Filter.{filter-none}
+use Rattle.lists.proofs.Count.{everyBelow-intro, everyBelow-at, everyBelow-ext, everyBelow-and, countBelow-ext}
 use Rattle.lists.proofs.Tabulate.{length-tabulate, all-tabulate}
 use Rattle.tables.specs.declared.Thread.{Thread}
 use Rattle.tables.specs.Sizes.{threads}
 use Rattle.tables.specs.Editions.{present}
-use Rattle.tables.specs.Tables.{threadOf, arrivals, sizesOk, priorityOk, recordOk, recordsOk, tailOk, tablesIn, tablesOk}
-use Rattle.tables.specs.Steps.{flagged, SeenIn}
+use Rattle.tables.specs.Tables.{threadOf, arrivals, sizesOk, priorityOk, recordOk, recordsOk, tailOk, expired, tablesIn, tablesOk}
+use Rattle.tables.specs.Steps.{placed}
+use Rattle.arrivals.specs.Arrivals.{PlacedIn}
 use Rattle.tables.proofs.Checked.{checked}
 use Rattle.layout.specs.Layout.{maxLast, threadAt, stateAt, tablesAt, tablesSize, flagsOk, waitingAt, timedAt, lastAt, listAt}
-use Rattle.layout.specs.Check.{flagsFit, agrees, placeOk, placeFits, timeOk, timeFits, Held}
+use Rattle.layout.specs.Check.{flagsFit, waits, agrees, placeOk, placeFits, timeOk, timeFits, Held, Checked}
 use Rattle.layout.proofs.Reading.{thread-read}
 use Rattle.layout.proofs.Exact.{tables-exact}
 
@@ -48,11 +50,33 @@ flag-rules (suc (suc w)) t l = rw (lt-leb (suc (suc w)) 1 (omega arith))
 and-move : (f q n p t : Bool) → (f && q && n && p && t) ≡ (f && (q && p && t && n))
 and-move f q n p t = simp and-assoc (ap (λ x. f && (q && x)) (and-comm n (p && t) ∙ and-assoc p t n))
 
-regroup : (o t g m p q f r : Bool) → (g && p && q) ≡ (f && r) → (o && t && (g && m) && p && q) ≡ (f && (o && t && (m && r)))
-regroup false t g m p q f r e = sym (and-false f)
-regroup true false g m p q f r e = sym (and-false f)
-regroup true true g true p q f r e = ap (λ x. x && p && q) (and-true g) ∙ e
-regroup true true g false p q f r e = ap (λ x. x && p && q) (and-false g) ∙ sym (and-false f)
+-- the passes in their order, the last of which tests three things; f and r are the rules of the bytes' form and of the records
+regroup : (o t p q g m n f r : Bool) → (g && p && q) ≡ (f && r) → (o && t && p && q && (g && m && n)) ≡ (f && (o && t && (m && r && n)))
+regroup false t p q g m n f r e = sym (and-false f)
+regroup true false p q g m n f r e = sym (and-false f)
+regroup true true p q g true true f r e = simp and-true (and-comm (p && q) g ∙ sym (and-assoc g p q) ∙ e)
+regroup true true p q g true false f r e = simp and-false (and-false (p && q))
+regroup true true p q g false n f r e = rw (and-false g) (and-false (p && q) ∙ sym (and-false f))
+
+-- a time at which the deadlines keep their rule: they keep it at an earlier one, and up to it nobody is due
+earlier : (clock time : ℕ) (t : Bool) (d : ℕ) → clock ≤ time → timeOk time t d ≡ true → timeOk clock t d ≡ true
+earlier clock time true d h e = lt-ltb clock d (omega (arith, ltb-true time d e))
+earlier clock time false d h e = e
+
+not-due : (calm time : ℕ) (w t : Bool) (d : ℕ) → time ≤ calm → timeOk calm t d ≡ true → (w && t && leb d time) ≡ false
+not-due calm time true true d h e = lt-leb d time (omega (arith, ltb-true calm d e))
+not-due calm time true false d h e = refl
+not-due calm time false t d h e = refl
+
+pub times-earlier : (b : List ℕ) (clock time : ℕ) → clock ≤ time → everyBelow threads (timeFits time b) ≡ true → everyBelow threads (timeFits clock b) ≡ true
+times-earlier b clock time h e = everyBelow-intro threads (timeFits clock b)
+    (λ i l. earlier clock time (threadAt b i .timed) (threadAt b i .deadline) h (everyBelow-at threads (timeFits time b) e i l))
+
+none-due : (b : List ℕ) (calm time : ℕ) → time ≤ calm → everyBelow threads (timeFits calm b) ≡ true
+    → (t : ℕ) → t < threads → expired time (threadOf (stateAt b) t) ≡ false
+none-due b calm time h e t l =
+    let r = threadAt b t in
+    ap (expired time) (thread-read b t l) ∙ not-due calm time (r .waiting) (r .timed) (r .deadline) h (everyBelow-at threads (timeFits calm b) e t l)
 
 -- bytes of another length stand for no tables
 pub wrong-size : (b : List ℕ) → (length b ≡ tablesSize → ⊥) → tablesOk (tablesAt b) ≡ false
@@ -86,26 +110,6 @@ module _ (b : List ℕ) (size : length b ≡ tablesSize) where
       ∙ everyBelow-and threads (flagsOk b) (λ i. recordOk now (r i))
       ∙ ap (λ x. everyBelow threads (flagsOk b) && x) (sym records)
 
-  pub passes : (ok tail flags places times : Bool) (marks : List Bool) → stateAt b .count ≤ threads
-      → SeenIn (arrivals (stateAt b)) ok marks → tail ≡ tailOk (stateAt b)
-      → flags ≡ everyBelow threads (λ i. flagsFit b i && agrees marks b i) → places ≡ everyBelow threads (placeFits b)
-      → times ≡ everyBelow threads (timeFits (stateAt b .clock) b)
-      → (ok && tail && flags && places && times) ≡ tablesOk (tablesAt b)
-  passes ok tail flags places times marks few seen is fit place time =
-      let s = stateAt b in
-      let listed = everyBelow threads (agrees marks b) in
-      let same : everyBelow threads (λ t. Bool·beq (flagged marks t) (threadOf s t .waiting)) ≡ listed =
-      everyBelow-ext threads (λ t. Bool·beq (flagged marks t) (threadOf s t .waiting)) (agrees marks b)
-      (λ t l. ap (λ (r : Thread). Bool·beq (flagged marks t) (r .waiting)) (thread-read b t l)) in
-      let entries : length (s .list) ≡ threads = unfold stateAt in length-take-le threads (drop listAt b) (rw length-drop (omega (arith, size))) in
-      let records : length (s .threads) ≡ threads = unfold stateAt in length-tabulate threads (threadAt b) in
-      let all = checked s ok tail (listed && recordsOk s) marks records entries few seen is (ap (λ x. x && recordsOk s) (sym same)) in
-      (λ i. ok && tail && (fit ∙ everyBelow-and threads (flagsFit b) (agrees marks b)) i && place i && time i)
-      ∙ regroup ok tail (everyBelow threads (flagsFit b)) listed (everyBelow threads (placeFits b)) (everyBelow threads (timeFits (s .clock) b))
-      (everyBelow threads (flagsOk b)) (recordsOk s) rows
-      ∙ ap (λ x. everyBelow threads (flagsOk b) && x) all
-      ∙ sym whole
-
   formed : everyBelow threads (flagsOk b) ≡ true → tablesAt b ≡ stateAt b
   unfolding tablesAt
   formed flags = rw (eq-eqb (length b) tablesSize size, flags)
@@ -120,3 +124,44 @@ module _ (b : List ℕ) (size : length b ≡ tablesSize) where
         bytes = tables-exact b size flags h;
         sound = and-right (everyBelow threads (flagsOk b)) (tablesOk (stateAt b)) both;
       }
+
+  -- the passes, in their order
+  module _ (low tail places times flags : Bool) (place : List ℕ) (few : stateAt b .count ≤ threads)
+      (list : PlacedIn (arrivals (stateAt b)) low place) (behind : tail ≡ tailOk (stateAt b)) (sleeps : places ≡ everyBelow threads (placeFits b))
+      (kept : times ≡ everyBelow threads (timeFits (stateAt b .clock) b))
+      (fit : flags ≡ (everyBelow threads (λ i. flagsFit b i && agrees place b i) && eqb (countBelow threads (waits b)) (stateAt b .count))) where
+    passes : (low && tail && places && times && flags) ≡ tablesOk (tablesAt b)
+    passes =
+        let s = stateAt b in
+        let listed = everyBelow threads (agrees place b) in
+        let counted = eqb (countBelow threads (waits b)) (s .count) in
+        let same : everyBelow threads (λ t. Bool·beq (placed place t) (threadOf s t .waiting)) ≡ listed =
+        everyBelow-ext threads (λ t. Bool·beq (placed place t) (threadOf s t .waiting)) (agrees place b)
+        (λ t l. ap (λ (r : Thread). Bool·beq (placed place t) (r .waiting)) (thread-read b t l)) in
+        let number : countBelow threads (λ t. threadOf s t .waiting) ≡ countBelow threads (waits b) =
+        countBelow-ext threads (λ t. threadOf s t .waiting) (waits b) (λ t l. ap (λ (r : Thread). r .waiting) (thread-read b t l)) in
+        let entries : length (s .list) ≡ threads = unfold stateAt in length-take-le threads (drop listAt b) (rw length-drop (omega (arith, size))) in
+        let records : length (s .threads) ≡ threads = unfold stateAt in length-tabulate threads (threadAt b) in
+        let all = checked s low tail (listed && recordsOk s && counted) place records entries few list behind
+        (λ i. sym same i && recordsOk s && eqb (sym number i) (s .count)) in
+        (λ i. low && tail && sleeps i && kept i && (fit ∙ ap (_&& counted) (everyBelow-and threads (flagsFit b) (agrees place b))) i)
+        ∙ regroup low tail (everyBelow threads (placeFits b)) (everyBelow threads (timeFits (s .clock) b)) (everyBelow threads (flagsFit b)) listed counted
+        (everyBelow threads (flagsOk b)) (recordsOk s) rows
+        ∙ ap (λ x. everyBelow threads (flagsOk b) && x) all
+        ∙ sym whole
+
+    pub told : Bytes b → (calm : ℕ) → (times ≡ true → everyBelow threads (timeFits calm b) ≡ true)
+        → Checked b (record { ok = low && tail && places && times && flags; place = place; calm = calm })
+    told h calm still =
+        let first : (low && tail && places && times && flags) ≡ true → (low && tail && places && times) ≡ true = λ e. and-left (low && tail && places && times) flags e in
+        let named : (low && tail && places && times && flags) ≡ true → low ≡ true =
+        λ e. and-left low tail (and-left (low && tail) places (and-left (low && tail && places) times (first e))) in
+        record {
+          answer = passes;
+          held = λ e. held h (sym passes ∙ e);
+          places = λ e. list .places (named e);
+          calm = λ e time l.
+              let late = still (and-right (low && tail && places) times (first e)) in
+              filter-none (λ t. expired time (threadOf (stateAt b) t)) (λ t. ltb t threads) (λ t k. none-due b calm time l late t (ltb-true t threads k))
+              (arrivals (stateAt b)) (sym (list .named) ∙ named e);
+        }

@@ -2,3 +2,4 @@ pub mod Columns
 pub mod Reading
 pub mod Exact
 pub mod Checks
+pub mod Theorems

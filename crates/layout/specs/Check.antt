@@ -1,13 +1,16 @@
 -- What the check of the bytes computes on the way, and what it tells.
 use mathlib.Core.Path.{_≡_}
 use mathlib.Core.Bool.{Bool, true, not, cond, _&&_, Bool·beq}
-use mathlib.Core.List.{List}
-use Prim.Native.Nat.{ℕ, _+_}
+use mathlib.Core.List.{List, []}
+use Prim.Native.Nat.{ℕ, _+_, _≤_}
 use lib.ListN.{length, getD}
 use lib.Dec.{eqb, leb, ltb}
-use Rattle.tables.specs.Sizes.{bytesPerProcess}
-use Rattle.tables.specs.Tables.{aligned, priorityOk, tablesOk}
-use Rattle.tables.specs.Steps.{flagged}
+use Rattle.lists.specs.Lists.{filter, everyBelow}
+use Rattle.tables.specs.Sizes.{threads, bytesPerProcess}
+use Rattle.tables.specs.Tables.{threadOf, arrivals, aligned, priorityOk, expired, tablesOk}
+use Rattle.tables.specs.Steps.{Places, placed}
+use Rattle.layout.specs.declared.check.Times.{Times}
+use Rattle.layout.specs.declared.check.Seen.{Seen}
 use Rattle.layout.specs.Layout.{maxLast, waitingAt, timedAt, lastAt, threadAt, stateAt, tablesBytes, tablesAt, tablesSize}
 
 -- the flags of thread i stand for something, a thread with a deadline waits, and its priority keeps its rule
@@ -18,9 +21,12 @@ flagsFit b i =
     && leb (getD b (lastAt + i) 0) maxLast
     && priorityOk (threadAt b i)
 
--- thread i is marked where it waits
-abbrev pub agrees : List Bool → List ℕ → ℕ → Bool
-agrees marks b i = Bool·beq (flagged marks i) (threadAt b i .waiting)
+abbrev pub waits : List ℕ → ℕ → Bool
+waits b i = threadAt b i .waiting
+
+-- thread i has a place in the list where it waits
+abbrev pub agrees : List ℕ → List ℕ → ℕ → Bool
+agrees place b i = Bool·beq (placed place i) (waits b i)
 
 abbrev pub placeOk : Bool → ℕ → ℕ → Bool
 placeOk waiting a m = cond waiting (aligned a && ltb a bytesPerProcess && not (eqb m 0)) (eqb a 0 && eqb m 0)
@@ -34,6 +40,11 @@ timeOk now timed due = cond timed (ltb now due) (eqb due 0)
 abbrev pub timeFits : ℕ → List ℕ → ℕ → Bool
 timeFits now b i = timeOk now (threadAt b i .timed) (threadAt b i .deadline)
 
+-- whether the deadlines keep their rule at the clock, and if so a time at which they would keep it
+pub record TimesUntil (b : List ℕ) (clock : ℕ) (r : Times) : Type 0 where
+  pub answer : r .ok ≡ everyBelow threads (timeFits clock b)
+  pub later : r .ok ≡ true → everyBelow threads (timeFits (r .calm) b) ≡ true
+
 -- The bytes stand for these tables, which keep the rules.
 pub record Held (b : List ℕ) : Type 0 where
   pub size : length b ≡ tablesSize
@@ -41,6 +52,10 @@ pub record Held (b : List ℕ) : Type 0 where
   pub bytes : b ≡ tablesBytes (stateAt b)
   pub sound : tablesOk (stateAt b) ≡ true
 
-pub record Checked (b : List ℕ) (r : Bool) : Type 0 where
-  pub answer : r ≡ tablesOk (tablesAt b)
-  pub held : r ≡ true → Held b
+-- What the check tells: whether the bytes stand for tables that keep the rules; and if they do, where each thread stands in the list, and a
+-- time up to which nobody is due.
+pub record Checked (b : List ℕ) (r : Seen) : Type 0 where
+  pub answer : r .ok ≡ tablesOk (tablesAt b)
+  pub held : r .ok ≡ true → Held b
+  pub places : r .ok ≡ true → Places (r .place) (arrivals (stateAt b))
+  pub calm : r .ok ≡ true → (time : ℕ) → time ≤ r .calm → filter (λ t. expired time (threadOf (stateAt b) t)) (arrivals (stateAt b)) ≡ []

@@ -1,12 +1,10 @@
-// What the bytes of the tables stand for: a record, the list, and the threads that pass a test.
+// What the bytes of the tables stand for: a record, the list, and the sleepers whose deadline has come.
 ghost use mathlib.Core.Path.{_≡_};
-ghost use mathlib.Core.Bool.{cond, _&&_, _||_};
 ghost use Prim.Native.Nat.{_<_};
 ghost use lib.ListN.{length, take, drop};
-ghost use Rattle.lists.specs.Lists.{bit};
-ghost use Rattle.tables.specs.Sizes.{processes, threads};
-ghost use Rattle.tables.specs.Tables.{threadOf, arrivals, expired, sharesBit, sleepsAt};
-ghost use Rattle.tables.specs.Steps.{Flags, foundOf};
+ghost use Rattle.tables.specs.Sizes.{threads};
+ghost use Rattle.tables.specs.Tables.{threadOf, arrivals, expired};
+ghost use Rattle.tables.specs.Steps.{splitOf};
 ghost use Rattle.layout.specs.Layout.{lastOf, threadAt, listAt, tablesSize, stateAt};
 ghost use Rattle.layout.specs.Check.{Held};
 use crate::BITSET_AT;
@@ -20,8 +18,10 @@ use crate::TIMED_AT;
 use crate::UADDR_AT;
 use crate::WAITING_AT;
 use crate::WORD_SIZE;
-use arrivals::Found;
+use arrivals::Split;
+use arrivals::either;
 use arrivals::index_of;
+use arrivals::one_if;
 use numbers::u32_at;
 use numbers::u64_at;
 use tables::LastAnswer;
@@ -77,41 +77,10 @@ pub fn list_at(b: &[u8]) -> [u8; THREADS]
     list
 }
 
-// Who sleeps at the word of a process that exists, and may be taken.
-pub fn hits(b: &[u8], process: usize, uaddr: u32, any: bool, bitset: u32) -> [bool; THREADS]
-    requires { ⌜ (length (now b) ≡ tablesSize) × (process < processes) ⌝ }
-    ensures { λ r. ⌜ Flags r (λ t. (any || sharesBit bitset (threadOf (stateAt (now (b .entry))) t)) && sleepsAt process uaddr (stateAt (now (b .entry))) t) ⌝ }
-{
-    let mut flags = [false; THREADS];
-    let base = State::THREADS_PER_PROCESS * process;
-    let mut i: usize = 0;
-    while i < State::THREADS_PER_PROCESS {
-        let t = thread_at(b, base + i);
-        let hit = t.is_hit(uaddr, any, bitset);
-        flags[base + i] = hit;
-        i += 1;
-    }
-    flags
-}
-
-// One number or the other; a leaf, so that the loop below has no branch on what the records hold.
-fn either(test: bool, a: u8, b: u8) -> u8
-    ensures { λ r. ⌜ r ≡ cond test a b ⌝ }
-{
-    if test { a } else { b }
-}
-
-// 1 or 0.
-fn one_if(test: bool) -> usize
-    ensures { λ r. ⌜ r ≡ bit test ⌝ }
-{
-    if test { 1 } else { 0 }
-}
-
 // The sleepers whose deadline has come, on tables that keep the rules, taken from the list in one walk along it.
-pub fn due(b: &[u8], time: u64) -> Found
+pub fn due(b: &[u8], time: u64) -> Split
     requires { ⌜ Held (now b) ⌝ }
-    ensures { λ r. ⌜ r ≡ foundOf (λ t. expired time (threadOf (stateAt (now (b .entry))) t)) threads 0 (arrivals (stateAt (now (b .entry)))) ⌝ }
+    ensures { λ r. ⌜ r ≡ splitOf (λ t. expired time (threadOf (stateAt (now (b .entry))) t)) (arrivals (stateAt (now (b .entry)))) ⌝ }
 {
     let list = list_at(b);
     let count = u64_at(b, COUNT_AT) as usize;
@@ -130,12 +99,10 @@ pub fn due(b: &[u8], time: u64) -> Found
         w += one_if(!hit);
         i += 1;
     }
-    Found {
+    Split {
         left: left,
         count: w,
         taken: taken,
-        released: n,
-        moved: 0,
-        looks: i,
+        n: n,
     }
 }

@@ -1,16 +1,16 @@
 -- Counting the numbers below a bound, and lists of different numbers below it.
 use mathlib.Core.Path.{_≡_, refl, sym, ap, _∙_}
-use mathlib.Core.Bool.{Bool, true, not, _&&_}
+use mathlib.Core.Bool.{Bool, true, false, not, _&&_}
 use mathlib.Core.List.{List, [], _∷_}
 use Prim.Native.Nat.{ℕ, suc, zero, _+_, _≤_, _<_}
 use native.Mathlib.Numerals.{add-one}
 use native.Mathlib.Omega.{arith}
 use lib.ListN.{length}
-use lib.Dec.{eqb}
-use borrow.Author.Tests.{eqb-true, ne-eqb}
-use Rattle.lists.specs.Lists.{filter, elem, bit, everyBelow, countBelow}
-use Rattle.lists.proofs.Tests.{cases, and-intro, and-left, and-right, and-swap, bit-le, eqb-refl, lt-of-le-ne}
-use Rattle.lists.proofs.Occurs.{occurs, elem-occurs, elem-filter, occurs-once, occurs-filtered-out, occurs-filter-le}
+use lib.Dec.{eqb, ltb}
+use borrow.Author.Tests.{eqb-true, eq-eqb, ne-eqb, ltb-true}
+use Rattle.lists.specs.Lists.{filter, all, elem, distinct, bit, everyBelow, countBelow}
+use Rattle.lists.proofs.Tests.{cases, clash, and-intro, and-left, and-right, and-swap, bit-le, eqb-refl, lt-of-le-ne}
+use Rattle.lists.proofs.Occurs.{occurs, elem-occurs, elem-all, elem-filter, absent-occurs, occurs-once, occurs-filtered-out, occurs-filter-le, distinct-occurs}
 
 pub everyBelow-intro : (n : ℕ) (f : ℕ → Bool) → ((t : ℕ) → t < n → f t ≡ true) → everyBelow n f ≡ true
 unfolding everyBelow
@@ -95,10 +95,53 @@ length-count (suc n) l one none =
     elem-others t h =
         elem-filter (λ x. not (eqb n x)) t l (ap not (ne-eqb n t (λ e. omega arith)))
 
-countBelow-le : (n : ℕ) (f : ℕ → Bool) → countBelow n f ≤ n
+pub countBelow-le : (n : ℕ) (f : ℕ → Bool) → countBelow n f ≤ n
 unfolding countBelow
 countBelow-le zero f = omega arith
 countBelow-le (suc n) f = omega (arith, countBelow-le n f, bit-le (f n))
 
 pub length-le : (n : ℕ) (l : List ℕ) → ((t : ℕ) → occurs t l ≤ 1) → ((t : ℕ) → n ≤ t → occurs t l ≡ 0) → length l ≤ n
 length-le n l one none = omega (arith, length-count n l one none, countBelow-le n (λ t. elem t l))
+
+-- tests that agree but for one number
+count-but-one : (n x : ℕ) (f g : ℕ → Bool) → ((t : ℕ) → eqb t x ≡ false → f t ≡ g t) → countBelow n f ≤ countBelow n g + 1
+unfolding countBelow
+count-but-one zero x f g same = omega arith
+count-but-one (suc n) x f g same = cases (eqb n x)
+    (λ e.
+    let before = countBelow-ext n f g (λ t h. same t (ne-eqb t x (λ q. omega (arith, eqb-true n x e)))) in
+    omega (arith, bit-le (f n)))
+    (λ e. omega (arith, count-but-one n x f g same, ap bit (same n e)))
+
+-- one entry more counts for one at most, and for none where its number stands there already
+module _ (n x : ℕ) (l : List ℕ) where
+  count-more : countBelow n (λ t. elem t (x ∷ l)) ≤ countBelow n (λ t. elem t l) + 1
+  count-more = count-but-one n x (λ t. elem t (x ∷ l)) (λ t. elem t l) (λ t e. rw e)
+
+  count-again : elem x l ≡ true → countBelow n (λ t. elem t (x ∷ l)) ≡ countBelow n (λ t. elem t l)
+  count-again there = countBelow-ext n (λ t. elem t (x ∷ l)) (λ t. elem t l)
+      (λ t h. cases (eqb t x) (λ e. rw (e, eqb-true t x e, there)) (λ e. rw e))
+
+count-none : (n : ℕ) → countBelow n (λ t. false) ≡ 0
+unfolding countBelow
+count-none zero = refl
+count-none (suc n) = omega (arith, count-none n)
+
+count-most : (n : ℕ) (l : List ℕ) → countBelow n (λ t. elem t l) ≤ length l
+count-most n [] = omega (arith, count-none n)
+count-most n (x ∷ l) = omega (arith, count-more n x l, count-most n l)
+
+count-fewer : (n : ℕ) (l : List ℕ) → distinct l ≡ false → countBelow n (λ t. elem t l) < length l
+count-fewer n [] e = clash true refl e
+count-fewer n (x ∷ l) e = cases (elem x l)
+    (λ k. omega (arith, count-again n x l k, count-most n l))
+    (λ k. omega (arith, count-more n x l, count-fewer n l (rw k at e)))
+
+-- no number twice: as many different numbers as entries
+pub distinct-counted : (n : ℕ) (l : List ℕ) → all (λ t. ltb t n) l ≡ true → distinct l ≡ eqb (countBelow n (λ t. elem t l)) (length l)
+distinct-counted n l low = cases (distinct l)
+    (λ e. rw e (sym (eq-eqb _ _ (sym (length-count n l (λ t. distinct-occurs t l e) none)))))
+    (λ e. rw e (sym (ne-eqb (countBelow n (λ t. elem t l)) (length l) (λ q. omega (arith, count-fewer n l e)))))
+  where
+    none : (t : ℕ) → n ≤ t → occurs t l ≡ 0
+    none t h = absent-occurs t l (cases (elem t l) (λ d. absurd (omega (arith, ltb-true t n (elem-all (λ u. ltb u n) l low t d)))) (λ d. d))

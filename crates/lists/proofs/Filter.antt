@@ -2,7 +2,7 @@
 use mathlib.Core.Path.{_≡_, refl, sym, _∙_}
 use mathlib.Core.Bool.{Bool, true, false, _&&_, and-comm}
 use mathlib.Core.List.{List, [], _∷_, _++_}
-use Prim.Native.Nat.{ℕ, suc, zero, _≤_}
+use Prim.Native.Nat.{ℕ, suc, zero, _≤_, _<_}
 use native.Mathlib.Omega.{arith}
 use lib.ListN.{length, take, drop, getD, replicate}
 use lib.Dec.{eqb}
@@ -105,6 +105,16 @@ module _ {A : Type 0} where
   getD-all f d [] k h t = k
   getD-all f d (x ∷ xs) k h zero = and-left (f x) (all f xs) h
   getD-all f d (x ∷ xs) k h (suc t) = getD-all f d xs k (and-right (f x) (all f xs) h) t
+
+  -- the same, of the places that there are
+  pub all-at : (f : A → Bool) (d : A) (l : List A) → ((t : ℕ) → t < length l → f (getD l t d) ≡ true) → all f l ≡ true
+  all-at f d [] h = refl
+  all-at f d (x ∷ xs) h = and-intro (h 0 (omega arith)) (all-at f d xs (λ t e. h (suc t) (omega arith)))
+
+  pub at-all : (f : A → Bool) (d : A) (l : List A) → all f l ≡ true → (t : ℕ) → t < length l → f (getD l t d) ≡ true
+  at-all f d [] h t e = absurd (omega arith)
+  at-all f d (x ∷ xs) h zero e = and-left (f x) (all f xs) h
+  at-all f d (x ∷ xs) h (suc t) e = at-all f d xs (and-right (f x) (all f xs) h) t (omega arith)
 
 -- a list of one number only
 pub all-replicate : (z : ℕ) (l : List ℕ) → all (λ x. eqb x z) l ≡ true → l ≡ replicate (length l) z

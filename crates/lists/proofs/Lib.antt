@@ -2,10 +2,15 @@ pub mod Tests
 pub mod Filter
 pub mod Update
 pub mod Occurs
+pub mod Falling
+pub mod Standing
 pub mod Highest
+pub mod Pairwise
 pub mod Count
 pub mod Loops
+pub mod Ranks
 pub mod LeftOver
+pub mod Padded
 pub mod Stores
 pub mod LittleEndian
 pub mod Tabulate

@@ -6,10 +6,11 @@ use Prim.Native.Nat.{ℕ, suc, _+_, _-_, _≤_, _<_}
 use native.Mathlib.Numerals.{add-one}
 use native.Mathlib.Omega.{arith}
 use lib.ListN.{length, take, drop, getD, set, replicate, length-append, length-set}
-use lib.Seq.{take-all, take-suc, take-suc-set, drop-cons, set-append-seam, append-snoc}
+use lib.Seq.{take-all, take-suc, take-suc-set, drop-cons, set-append-seam, append-snoc, getD-set-same, getD-set-other}
 use lib.Dec.{eqb}
+use borrow.Author.Tests.{eqb-true, eqb-false}
 use Rattle.lists.specs.Lists.{all, elem, distinct, padTo}
-use Rattle.lists.proofs.Tests.{cases, eqb-refl, eqb-sym}
+use Rattle.lists.proofs.Tests.{cases, eqb-refl, eqb-sym, lt-of-le-ne}
 use Rattle.lists.proofs.Occurs.{elem-append}
 
 module _ {A : Type 0} where
@@ -60,6 +61,17 @@ module _ {A : Type 0} where
       let more : n - length l ≡ suc (n - suc (length l)) = omega arith in
       rw more (set-append-seam l z (replicate (n - suc (length l)) z) z)
 
+  -- one element stored, where the others are already as they are to be
+  pub stored-at : (l : List A) (d : A) (f : ℕ → A) (i : ℕ) (v : A) → i < length l → v ≡ f i
+      → (t : ℕ) → (eqb t i ≡ false → getD l t d ≡ f t) → getD (set l i v) t d ≡ f t
+  stored-at l d f i v h is t old = cases (eqb t i)
+      (λ e. rw (eqb-true t i e) (getD-set-same l i v d h ∙ is))
+      (λ e. getD-set-other l i t v d (eqb-false t i e) ∙ old e)
+
+  pub stored-next : (l : List A) (d : A) (f : ℕ → A) (i : ℕ) (v : A) → i < length l → ((t : ℕ) → t < i → getD l t d ≡ f t) → v ≡ f i
+      → (t : ℕ) → t < i + 1 → getD (set l i v) t d ≡ f t
+  stored-next l d f i v h done is t b = stored-at l d f i v h is t (λ e. done t (lt-of-le-ne t i (omega arith) e))
+
   -- a test of every element
   pub all-snoc : (f : A → Bool) (l : List A) (x : A) → all f (l ++ (x ∷ [])) ≡ (all f l && f x)
   all-snoc f [] x = and-true (f x)
@@ -70,7 +82,7 @@ module _ {A : Type 0} where
   all-next f ok l i d h = rw (drop-next l i d h) (sym (and-assoc ok (f (getD l i d)) (all f (drop (i + 1) l))))
 
 -- the numbers of a list, with one more
-elem-snoc : (t : ℕ) (l : List ℕ) (x : ℕ) → elem t (l ++ (x ∷ [])) ≡ (elem t l || eqb t x)
+pub elem-snoc : (t : ℕ) (l : List ℕ) (x : ℕ) → elem t (l ++ (x ∷ [])) ≡ (elem t l || eqb t x)
 elem-snoc t l x = elem-append t l (x ∷ []) ∙ ap (elem t l ||_) (or-false (eqb t x))
 
 pub elem-last : (l : List ℕ) (x : ℕ) → elem x (l ++ (x ∷ [])) ≡ true

@@ -1,12 +1,12 @@
 -- How often a number stands in a list: 0 or 1 for each number says both that no number stands there twice and which stand there.
 use mathlib.Core.Path.{_≡_, refl, sym, ap, _∙_}
-use mathlib.Core.Bool.{Bool, true, false, not, _||_, or-false}
+use mathlib.Core.Bool.{Bool, true, false, not, _||_, or-true, or-false}
 use mathlib.Core.List.{List, [], _∷_, _++_}
 use Prim.Native.Nat.{ℕ, suc, zero, _+_, _≤_, _<_}
 use native.Mathlib.Omega.{arith}
 use native.Mathlib.Nat.{zero-add}
 use native.Mathlib.Numerals.{one-add}
-use lib.ListN.{length, take, drop, getD, replicate}
+use lib.ListN.{length, take, drop, getD, replicate, take-append-drop}
 use lib.Dec.{eqb}
 use borrow.Author.Tests.{eqb-true, not-true}
 use Rattle.lists.specs.Lists.{filter, all, elem, without, distinct, bit}
@@ -114,6 +114,19 @@ elem-filtered-out f t l e = occurs-absent t (filter f l) (occurs-filtered-out f 
 pub elem-append : (t : ℕ) (l m : List ℕ) → elem t (l ++ m) ≡ (elem t l || elem t m)
 elem-append t [] m = refl
 elem-append t (x ∷ xs) m = let ih = elem-append t xs m in cases (eqb t x) (λ k. cc) (λ k. cc)
+
+pub in-second : (t : ℕ) (l m : List ℕ) → elem t m ≡ true → elem t (l ++ m) ≡ true
+in-second t l m h = elem-append t l m ∙ rw h (or-true (elem t l))
+
+pub elem-part : (f : ℕ → Bool) (t : ℕ) (l : List ℕ) → elem t (filter f l) ≡ true → elem t l ≡ true
+elem-part f t l h = cases (f t)
+    (λ e. sym (elem-filter f t l e) ∙ h)
+    (λ e. clash (elem t (filter f l)) h (elem-filtered-out f t l e))
+
+-- who is not among the first is among the rest
+pub elem-rest : (n t : ℕ) (l : List ℕ) → elem t l ≡ true → elem t (take n l) ≡ false → elem t (drop n l) ≡ true
+elem-rest n t l h out =
+    sym (rw out at (elem-append t (take n l) (drop n l))) ∙ ap (elem t) (take-append-drop n l) ∙ h
 
 -- taking numbers out, of a part and of the whole
 pub without-filter : (f : ℕ → Bool) (ts l : List ℕ) → filter f (without ts l) ≡ without (filter f ts) (filter f l)

@@ -1,5 +1,6 @@
 -- The list functions that the rules of the kernel are written with. filter, all, elem, distinct and countBelow are what the library
 -- means by filter, "each element", membership, no element twice, and a count: proofs/Library.antt.
+use mathlib.Core.Path.{_≡_}
 use mathlib.Core.Bool.{Bool, true, false, not, cond, _&&_, _||_}
 use mathlib.Core.List.{List, [], _∷_, _++_}
 use Prim.Native.Nat.{ℕ, suc, zero, _+_, _-_}
@@ -42,6 +43,10 @@ abbrev pub elem : ℕ → List ℕ → Bool
 elem t [] = false
 elem t (x ∷ xs) = eqb t x || elem t xs
 
+-- u stands in the list, and t behind it
+abbrev pub StandsBefore : ℕ → ℕ → List ℕ → Type 0
+StandsBefore u t l = (earlier : List ℕ) × (later : List ℕ) × (l ≡ earlier ++ u ∷ later) × (elem t later ≡ true)
+
 -- the list without the numbers of ts, the others in their order
 abbrev pub without : List ℕ → List ℕ → List ℕ
 without ts l = filter (λ t. not (elem t ts)) l
@@ -64,6 +69,11 @@ bit false = 0
 unfoldable pub countBelow : ℕ → (ℕ → Bool) → ℕ
 countBelow zero f = 0
 countBelow (suc n) f = countBelow n f + bit (f n)
+
+-- each element stands so to each later one
+abbrev pub pairwise : {A : Type 0} → (A → A → Bool) → List A → Bool
+pairwise r [] = true
+pairwise r (x ∷ xs) = all (r x) xs && pairwise r xs
 
 -- no element stands behind one of a lower number
 abbrev pub falling : {A : Type 0} → (A → ℕ) → List A → Bool

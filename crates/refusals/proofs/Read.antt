@@ -12,7 +12,7 @@ use Rattle.tables.specs.Tables.{threadOf, world}
 use Rattle.rules.specs.Answers.{Row, first}
 use Rattle.rules.specs.Commands.{commandOf}
 use Rattle.rules.specs.Calls.{firstRows, argumentRows, rowsIn, callRows, differs}
-use Rattle.rules.specs.Events.{refusals}
+use Rattle.rules.specs.Events.{ownRows, refusals}
 use Rattle.commands.specs.Places.{threadPlace, wordPlace}
 use Rattle.commands.proofs.Places.{thread-there, word-there}
 use Rattle.rules.proofs.Rows.{Same, _then_, same-behind, same-first}
@@ -24,12 +24,10 @@ rowsRead c s ws t i =
     firstRows (world s ws) ++ callRows c (threadOf s t .waiting) (s .clock) (getD ws i 0)
 
 module _ (c : Call) (s : State) (ws : List ℕ) (t i : ℕ) (thread : t ≡ threadPlace (c .process) (c .index)) (word : i ≡ wordPlace (c .process) (c .uaddr)) where
-  same-rows : Same (rowsRead c s ws t i) (refusals (CallEvent c) (world s ws))
-  unfolding refusals rowsIn
-  same-rows =
+  own-same : Same (callRows c (threadOf s t .waiting) (s .clock) (getD ws i 0)) (ownRows (CallEvent c) (world s ws))
+  unfolding rowsIn
+  own-same =
       let k = commandOf (c .op) in
-      refl then λ h1.
-      refl then λ h2.
       refl then λ h3.
       let p = thread-process (c .process) (c .index) h3 in
       ap (λ u. threadOf s u .waiting) (thread-there _ _ thread p (thread-index (c .process) (c .index) h3)) then λ h4.
@@ -40,6 +38,13 @@ module _ (c : Call) (s : State) (ws : List ℕ) (t i : ℕ) (thread : t ≡ thre
       ap (λ j. differs k c (getD ws j 0)) (word-there _ _ word p (leb-false bytesPerProcess (c .uaddr) (uaddr-inside k c h6))) then λ h8.
       refl then λ h9.
       tt)
+
+  pub own-verdict : first (callRows c (threadOf s t .waiting) (s .clock) (getD ws i 0)) ≡ first (ownRows (CallEvent c) (world s ws))
+  own-verdict = same-first (callRows c (threadOf s t .waiting) (s .clock) (getD ws i 0)) (ownRows (CallEvent c) (world s ws)) own-same
+
+  same-rows : Same (rowsRead c s ws t i) (refusals (CallEvent c) (world s ws))
+  unfolding refusals
+  same-rows = refl then λ h1. refl then λ h2. own-same
 
   pub verdict-is : first (rowsRead c s ws t i) ≡ first (refusals (CallEvent c) (world s ws))
   verdict-is = same-first (rowsRead c s ws t i) (refusals (CallEvent c) (world s ws)) same-rows

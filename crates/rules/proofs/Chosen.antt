@@ -11,7 +11,7 @@ use Rattle.lists.specs.Lists.{filter, all, elem, without}
 use Rattle.lists.proofs.Tests.{cases, and-left, and-right}
 use Rattle.lists.proofs.Filter.{filter-filter, all-filter, all-take, all-drop, all-filtered}
 use Rattle.lists.proofs.Occurs.{occurs, elem-occurs, elem-agree, occurs-filter-le, occurs-take-le, occurs-take-drop, occurs-without, occurs-taken-out}
-use Rattle.lists.proofs.Highest.{all-highest, occurs-highest, length-highest, highest-agree}
+use Rattle.lists.proofs.Highest.{all-highest, occurs-highest, length-highest, highest-same, highest-agree}
 use Rattle.tables.specs.declared.State.{State}
 use Rattle.tables.specs.declared.Thread.{Thread}
 use Rattle.rules.specs.declared.event.Command.{Command}
@@ -55,10 +55,15 @@ ordered-agree byArrival f s u same l h = refl
 ordered-agree byPriority f s u same l h =
     highest-agree (λ t. threadOf u t .priority) (λ t. threadOf s t .priority) f (λ t e. ap (λ (r : Thread). r .priority) (same t e)) maxPriority l h
 
-candidates-pass : (ed : Edition) (q : Thread → Bool) (p a : ℕ) (s : State) → all (candidate ed q p a s) (candidatesIn ed q p a s) ≡ true
+-- threads of one priority are taken as they stand
+pub ordered-level : (o : Order) (s : State) (k : ℕ) (l : List ℕ) → all (λ t. eqb (threadOf s t .priority) k) l ≡ true → ordered o s l ≡ l
+ordered-level byArrival s k l h = refl
+ordered-level byPriority s k l h = highest-same (λ t. threadOf s t .priority) k maxPriority l h
+
+pub candidates-pass : (ed : Edition) (q : Thread → Bool) (p a : ℕ) (s : State) → all (candidate ed q p a s) (candidatesIn ed q p a s) ≡ true
 candidates-pass ed q p a s = rw (candidates-are ed q p a s) (ordered-all (ed .order) s (candidate ed q p a s) _ (all-filter (candidate ed q p a s) (arrivals s)))
 
-candidates-listed : (ed : Edition) (q : Thread → Bool) (p a : ℕ) (s : State) (t : ℕ) → occurs t (candidatesIn ed q p a s) ≤ occurs t (arrivals s)
+pub candidates-listed : (ed : Edition) (q : Thread → Bool) (p a : ℕ) (s : State) (t : ℕ) → occurs t (candidatesIn ed q p a s) ≤ occurs t (arrivals s)
 candidates-listed ed q p a s t = rw (candidates-are ed q p a s, ordered-occurs (ed .order) s t (filter (candidate ed q p a s) (arrivals s))) (occurs-filter-le (candidate ed q p a s) t (arrivals s))
 
 -- a candidate is a thread of the process, and sleeps at the address

@@ -31,6 +31,7 @@ pub mod Elsewhere
 pub mod Fates
 pub mod Order
 pub mod Counts
+pub mod Level
 pub mod Cases
 pub mod Theorems
 pub mod Pinned

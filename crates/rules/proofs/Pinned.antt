@@ -1,10 +1,11 @@
 -- Laws that fix the words in which the theorems speak: each says, of a definition in specs/, what only the right one meets. Those that are
 -- proved by refl only read a definition out, so that a change of it shows; they say nothing more of the kernel.
-use mathlib.Core.Path.{_≡_, refl, ap, _∙_}
+use mathlib.Core.Path.{_≡_, refl, sym, ap, _∙_}
 use mathlib.Core.Bool.{Bool, true, false, not, cond, _&&_, _||_}
 use mathlib.Core.List.{List, [], _∷_, _++_, map}
 use mathlib.Core.Logic.{_⊎_, _↔_}
 use Prim.Native.Nat.{ℕ, _+_, _-_, _*_, _/_, _%_, _≤_, _<_}
+use native.Mathlib.Omega.{arith}
 use lib.ListN.{length, take, drop, replicate}
 use lib.Dec.{eqb}
 use lib.Bits.{bitAnd, bitOr, bitXor}
@@ -12,9 +13,10 @@ use mir.Syntax.{w32}
 use mir.Val.{toZ}
 use lib.IntN.{ℤ, pos, negℤ}
 use borrow.Author.Tests.{eqb-true, eq-eqb, leb-true, le-leb}
-use Rattle.lists.specs.Lists.{filter, elem}
-use Rattle.lists.proofs.Filter.{getD-replicated}
-use Rattle.lists.proofs.Tests.{eqb-refl, and-intro, and-left, and-right}
+use Rattle.lists.specs.Lists.{filter, all, elem}
+use Rattle.lists.proofs.Filter.{all-at, at-all, getD-replicated}
+use Rattle.lists.proofs.Standing.{stands-once}
+use Rattle.lists.proofs.Tests.{by-cases, eqb-refl, and-intro, and-left, and-right}
 use Rattle.tables.specs.declared.State.{State}
 use Rattle.tables.specs.declared.Thread.{Thread}
 use Rattle.tables.specs.declared.LastAnswer.{LastAnswer}
@@ -30,21 +32,22 @@ use Rattle.rules.specs.declared.answer.Verdict.the-variants.{Refuse, Pas
 use Rattle.rules.specs.declared.answer.Answer.{Answer}
 use Rattle.rules.specs.declared.answer.Answer.the-variants.{Asleep, Count, Refused, Waiting}
 use Rattle.tables.specs.Sizes.{processes, threadsPerProcess, threads, noEntry, wordsPerProcess, bytesPerProcess, memoryWords, maxCap, maxPriority, wordBits, wordLimit}
-use Rattle.tables.specs.Tables.{World, world, freshIn, fresh, expired, threadNumber, processOf, threadOf, arrivals, tablesOk, movedTo, withPriority, wordAt}
+use Rattle.tables.specs.Editions.{present}
+use Rattle.tables.specs.Tables.{World, world, freshThread, queueIn, queue, freshIn, fresh, expired, threadNumber, processOf, threadOf, arrivals, tablesOk, movedTo, withPriority, wordAt}
 use Rattle.rules.specs.Answers.{Row, first, reasonNumber, answerNumbers, reasonOf, lastNumber, Outcome, outcome}
 use Rattle.rules.specs.Commands.{commandOf, numbered, uses}
 use Rattle.rules.specs.Signed.{negative, signed, modulo, eqZ}
 use Rattle.rules.specs.WakeOp.{codeBits, argBits, opField, cmpArgField, shiftBit, undefinedOp, operate, newWord, compareBy, compares, val3Of}
-use Rattle.rules.specs.Calls.{caller, isWakeOp, oldWord}
+use Rattle.rules.specs.Calls.{caller, isWakeOp, matches, candidatesIn, releasedIn, oldWord}
 use Rattle.rules.specs.Events.{refusals, effect, step}
 use Rattle.rules.specs.Numbers.{numbersOf}
-use Rattle.rules.specs.Before.{stepWithoutReasons, newWordUnsigned, comparesUnsigned, stepUnsigned, noneNegative, other, minus12, numbersWith12, asWith12, full, judgedWith12, stepWith12}
+use Rattle.rules.specs.Before.{stepWithoutReasons, newWordUnsigned, comparesUnsigned, stepUnsigned, noneNegative, other, minus12, numbersWith12, asWith12, full, judgedWith12, stepWith12, takenByArrival, underArrival, backTo, stepByArrival, Level}
 use Rattle.rules.specs.History.{start, final, answers, isClock, belongs, keptFor, entriesOf, answersTo}
-use Rattle.rules.specs.Claims.{FirstOf, Clear, Sleeps, Took, Takes, wokenBy, movedBy, woke, shifted, countsMoves, SameSleepers, NamedAlike, before, after, PrioritySet, asleepThere, Enters, sleptThrough, Since, Alike}
+use Rattle.rules.specs.Claims.{FirstOf, Clear, Sleeps, GoesBefore, Took, Takes, wokenBy, movedBy, woke, shifted, countsMoves, SameSleepers, NamedAlike, before, after, PrioritySet, asleepThere, Enters, sleptThrough, Since, Alike}
 use Rattle.rules.specs.Cases.{wakeOpAt, asleepAtMinusOne, Case, sleepers, endedFrom, given, Reasoned, reasonedAs, Share, mixed, shareOf, Unsound, each, unsoundGiven}
-use Rattle.rules.specs.PriorityCases.{Prioritised, rankedFrom, prioritisedAs}
+use Rattle.rules.specs.PriorityCases.{Prioritised, rankedFrom, prioritisedAs, Choice, sleepOn, chosenAs}
 use Rattle.rules.specs.WakeOpCases.{Compared, comparedAs, Stored, storedAs, Called, calledAs}
-use Rattle.tables.proofs.Sound.{tables-sound}
+use Rattle.tables.proofs.Sound.{once, tables-sound}
 use Rattle.rules.proofs.ByEvent.{no-call}
 use Rattle.rules.proofs.Rows.{first-of, of-first, pass-clear, clear-pass}
 use Rattle.rules.proofs.Preserved.{Valid}
@@ -249,6 +252,30 @@ numbered-12 a = (refl, refl)
 pub whole-with-12 : (o : Outcome) → asWith12 o ≡ record { answer = other (o .answer); world = o .world }
 whole-with-12 o = refl
 
+-- The rules before request (vii), which `as-before-order` speaks of: they go by the edition that takes sleepers as they stand in the list;
+pub by-arrival : (e : Event) (w : World) → stepByArrival e w ≡ backTo present (step e (underArrival w))
+unfolding stepByArrival
+by-arrival e w = refl
+
+pub released-by-arrival : (k : Command) (c : Call) (s : State)
+    → releasedIn (takenByArrival present) k c s ≡ take (c .val) (filter (λ t. matches k c (threadOf s t)) (queue (c .process) (c .uaddr) s))
+unfolding releasedIn candidatesIn queueIn
+released-by-arrival k c s = refl
+
+-- and of tables in which one number is the priority of every record.
+pub level-exactly : (s : State) → Level s ↔ ((n : ℕ) × (all (λ (r : Thread). eqb (r .priority) n) (s .threads) ≡ true))
+level-exactly s = (
+  (λ h. (threadOf s 0 .priority, all-at _ freshThread (s .threads) (λ t e. eq-eqb _ _ (h t 0 e (omega arith))))),
+  (λ h t u e d. let at = at-all (λ (r : Thread). eqb (r .priority) (h .0)) freshThread (s .threads) (h .1) in
+      eqb-true _ _ (at t e) ∙ sym (eqb-true _ _ (at u d))),
+)
+
+-- Of two sleepers not each goes before the other, and none before itself.
+pub goes-one-way : (s : State) → tablesOk s ≡ true → (t u : ℕ) → GoesBefore s u t → GoesBefore s t u → ⊥
+goes-one-way s h t u first back = by-cases first
+    (λ a. by-cases back (λ b. omega arith) (λ b. omega (arith, b .0)))
+    (λ a. by-cases back (λ b. omega (arith, a .0)) (λ b. stands-once u t (arrivals s) (once s (tables-sound s h)) (a .1) (b .1)))
+
 -- Wakes and requeues: what was taken fixes every record and the order of the list afterwards,
 pub took-fixes : {a : LastAnswer} {out on : List ℕ} {target : ℕ} {s u v : State} → Took a out on target s u → Took a out on target s v
     → ((t : ℕ) → threadOf u t ≡ threadOf v t) × (arrivals u ≡ arrivals v)
@@ -396,6 +423,15 @@ pub prioritised-given : (r : Prioritised) → let w = start (replicate memoryWor
     prioritisedAs r
     ≡ record { happens = r .happens; answers = map answerNumbers (answers (r .happens) w); priorities = rankedFrom 0 (final (r .happens) w .state .threads) }
 prioritised-given r = refl
+
+pub choice-given : (r : Choice) → let w = final (r .happens) (start (replicate memoryWords 0)) in
+    chosenAs r
+    ≡ record { happens = r .happens; call = r .call; now = sleepOn (step (r .call) w); before = sleepOn (stepByArrival (r .call) w) }
+choice-given r = refl
+
+pub sleep-on : (o : Outcome)
+    → sleepOn o ≡ (answerNumbers (o .answer), map (λ t. (t, threadOf (o .world .state) t .uaddr)) (arrivals (o .world .state)))
+sleep-on o = refl
 
 pub share-given : (s : Share) → let w = start (replicate memoryWords 0) in
     shareOf s ≡ record { process = s .process; kept = keptFor (s .process) mixed; answers = map answerNumbers (answersTo (s .process) mixed w) }

@@ -9,10 +9,11 @@ use native.Mathlib.Omega.{arith}
 use lib.IntN.{ℤ, pos, negℤ, _+ℤ_}
 use lib.Signed.{ltZ}
 use lib.ListN.{length, take, drop}
-use Rattle.lists.specs.Lists.{filter, elem, without, countBelow}
+use lib.Dec.{eqb}
+use Rattle.lists.specs.Lists.{filter, elem, without, countBelow, falling}
 use Rattle.lists.proofs.Tests.{by-cases, clash}
 use Rattle.tables.specs.declared.State.{State}
-use Rattle.tables.specs.declared.LastAnswer.the-variants.{TimedOut, Interrupted}
+use Rattle.tables.specs.declared.LastAnswer.the-variants.{Woken, TimedOut, Interrupted}
 use Rattle.rules.specs.declared.event.Command.{Command}
 use Rattle.rules.specs.declared.event.Command.the-variants.{Wake}
 use Rattle.rules.specs.declared.event.Call.{Call}
@@ -23,21 +24,22 @@ use Rattle.rules.specs.declared.answer.Reason.the-variants.{NoReason}
 use Rattle.rules.specs.declared.answer.Refusal.{Refusal}
 use Rattle.rules.specs.declared.answer.Answer.the-variants.{Asleep, Count, Refused}
 use Rattle.tables.specs.Sizes.{processes, threadsPerProcess, threads, bytesPerProcess, memoryWords, maxPriority, wordBits, wordLimit}
-use Rattle.tables.specs.Tables.{World, threadNumber, processOf, wordAt, ended, threadOf, arrivals, sleepsAt, queue, expired, expiredSleepers, tablesOk, withState, fallAsleep, setPriority}
+use Rattle.tables.specs.Editions.{byPriority}
+use Rattle.tables.specs.Tables.{World, threadNumber, processOf, wordAt, ended, threadOf, sleepsAt, queue, expired, expiredSleepers, tablesOk, withState, fallAsleep, setPriority}
 use Rattle.rules.specs.Answers.{asleepNumber, reasonNumber, answerNumbers, reasonOf, outcome}
 use Rattle.rules.specs.Commands.{commandOf}
 use Rattle.rules.specs.Signed.{signed, Within, modulo, eqZ}
 use Rattle.rules.specs.WakeOp.{codeBits, argBits, opField, cmpField, opArgField, cmpArgField, opArg, cmpArg, shiftBit, operand, newWord, compareBy, compares, val3Of}
-use Rattle.rules.specs.Calls.{caller, secondCap, matches, candidatesIn, releasedIn, released, movedIn, moved, releasedSecond}
+use Rattle.rules.specs.Calls.{caller, secondCap, ordered, matches, candidatesIn, releasedIn, released, movedIn, moved, releasedSecond}
 use Rattle.rules.specs.Events.{refusals, effect, step}
 use Rattle.rules.specs.Numbers.{numbersOf}
-use Rattle.rules.specs.Before.{stepWithoutReasons, withoutReason, stepUnsigned, noneNegative, numbersWith12, asWith12, stepWith12}
+use Rattle.rules.specs.Before.{stepWithoutReasons, withoutReason, stepUnsigned, noneNegative, numbersWith12, asWith12, stepWith12, stepByArrival, Level}
 use Rattle.rules.specs.History.{start, final, answers, keptFor, answersTo}
-use Rattle.rules.specs.Claims.{FirstOf, Clear, Fault, Sleeps, sleepsBy, Took, Takes, wokenCount, shiftedCount, countsMoves, NamedAlike, before, after, PrioritySet, Fate, priorityAfter, asleepThere, sleptThrough, Since, Alike}
+use Rattle.rules.specs.Claims.{FirstOf, Clear, Fault, Sleeps, sleepsBy, GoesBefore, Took, Takes, wokenCount, shiftedCount, countsMoves, NamedAlike, before, after, PrioritySet, Fate, priorityAfter, asleepThere, sleptThrough, Since, Alike}
 use Rattle.rules.proofs.Rows.{first-of, of-first, verdicts, step-refused, step-clear}
 use Rattle.rules.specs.Cases.{twelve, further, given, reasoned, reasonedAs, shares, shareOf, unsounds, unsoundGiven}
 use Rattle.rules.specs.WakeOpCases.{comparisons, comparedAs, operations, storedAs, calls, calledAs}
-use Rattle.rules.specs.PriorityCases.{prioritised, prioritisedAs}
+use Rattle.rules.specs.PriorityCases.{prioritised, prioritisedAs, choices, chosenAs}
 use Rattle.rules.proofs.Cases as Cases
 use Rattle.tables.proofs.Sound.{tables-sound, sound-tables, room, none-overdue}
 use Rattle.rules.proofs.Refused.{refused-row}
@@ -50,6 +52,7 @@ use Rattle.rules.proofs.Reasons as Reasons
 use Rattle.rules.proofs.Sleeps as Sleeps′
 use Rattle.rules.proofs.Taken as Taken
 use Rattle.rules.proofs.Order as Order
+use Rattle.rules.proofs.Level as Level′
 use Rattle.rules.proofs.Counts as Counts
 use Rattle.rules.proofs.Local as Local
 use Rattle.rules.proofs.Fate as Fate′
@@ -181,14 +184,14 @@ asleep-leaves = Sleeps′.asleep-leaves
 -- Demand 2, wakes and requeues.
 
 -- Definitions read out: whom a call releases, moves, and releases at WAKE_OP's second word, which `takes-first` below speaks of. "A wake or
--- requeue takes the matching sleepers in arrival order up to its caps, neither more nor fewer."
+-- requeue takes the matching sleepers .. up to its caps, neither more nor fewer": since request (vii) not in arrival order, but by priority.
 pub released-first : (k : Command) (c : Call) (s : State)
-    → released k c s ≡ take (c .val) (filter (λ t. matches k c (threadOf s t)) (queue (c .process) (c .uaddr) s))
+    → released k c s ≡ take (c .val) (ordered byPriority s (filter (λ t. matches k c (threadOf s t)) (queue (c .process) (c .uaddr) s)))
 unfolding releasedIn candidatesIn
 released-first k c s = refl
 
 pub moved-next : (k : Command) (c : Call) (s : State)
-    → moved k c s ≡ take (secondCap c) (drop (c .val) (filter (λ t. matches k c (threadOf s t)) (queue (c .process) (c .uaddr) s)))
+    → moved k c s ≡ take (secondCap c) (drop (c .val) (ordered byPriority s (filter (λ t. matches k c (threadOf s t)) (queue (c .process) (c .uaddr) s))))
 unfolding movedIn candidatesIn
 moved-next k c s = refl
 
@@ -196,28 +199,54 @@ moved-next k c s = refl
 pub released-second : (k : Command) (c : Call) (w : World)
     → releasedSecond k c w
     ≡ cond (compares (c .val3) (wordAt w (c .process) (c .uaddr2)))
-    (take (secondCap c) (without (released k c (w .state)) (filter (λ t. matches k c (threadOf (w .state) t)) (queue (c .process) (c .uaddr2) (w .state)))))
+    (take (secondCap c) (without (released k c (w .state)) (ordered byPriority (w .state) (filter (λ t. matches k c (threadOf (w .state) t)) (queue (c .process) (c .uaddr2) (w .state))))))
     []
 unfolding releasedSecond candidatesIn
 released-second k c w = refl
 
--- Nobody is overtaken: a sleeper that the call matches, and that no released one stands before in the list, is released too,
-pub none-overtaken : (k : Command) (c : Call) (s : State) (t u : ℕ) (earlier later : List ℕ) → arrivals s ≡ earlier ++ u ∷ later → elem t earlier ≡ false
-    → (matches k c (threadOf s u) && sleepsAt (c .process) (c .uaddr) s u) ≡ true
-    → elem t (released k c s) ≡ true → elem u (released k c s) ≡ true
-none-overtaken = Order.none-overtaken
+-- Request (vii), the order: "by higher base priority, and by arrival among equals". Of threads in list order it makes the one list in which none
+-- stands behind one of a lower priority and those of each priority stand as they stood.
+pub by-priority : (s : State) → tablesOk s ≡ true → (l m : List ℕ)
+    → (m ≡ ordered byPriority s l)
+    ↔ ((falling (λ t. threadOf s t .priority) m ≡ true)
+    × ((n : ℕ) → filter (λ t. eqb (threadOf s t .priority) n) m ≡ filter (λ t. eqb (threadOf s t .priority) n) l))
+by-priority s h = Order.by-priority s (tables-sound s h)
 
--- if another was moved, released or moved,
-pub none-passed-over : (k : Command) (c : Call) (s : State) (t u : ℕ) (earlier later : List ℕ) → arrivals s ≡ earlier ++ u ∷ later → elem t earlier ≡ false
-    → (matches k c (threadOf s u) && sleepsAt (c .process) (c .uaddr) s u) ≡ true
-    → elem t (moved k c s) ≡ true → elem u (released k c s ++ moved k c s) ≡ true
-none-passed-over = Order.none-passed
+-- Nobody is overtaken: where a sleeper that the call matches is not released, each that is released goes before it, by a higher priority or, if
+-- they are equal, by its place in the list;
+pub none-overtaken : (k : Command) (c : Call) (s : State) → tablesOk s ≡ true → (t : ℕ) → (matches k c (threadOf s t) && sleepsAt (c .process) (c .uaddr) s t) ≡ true
+    → (u : ℕ) → elem t (released k c s) ≡ false → elem u (released k c s) ≡ true → GoesBefore s u t
+none-overtaken k c s h = Order.none-overtaken k c s (tables-sound s h)
+
+-- where it is neither released nor moved, each that is;
+pub none-passed-over : (k : Command) (c : Call) (s : State) → tablesOk s ≡ true → (t : ℕ) → (matches k c (threadOf s t) && sleepsAt (c .process) (c .uaddr) s t) ≡ true
+    → (u : ℕ) → elem t (released k c s ++ moved k c s) ≡ false → elem u (released k c s ++ moved k c s) ≡ true → GoesBefore s u t
+none-passed-over k c s h = Order.none-passed k c s (tables-sound s h)
 
 -- and so at WAKE_OP's second word.
-pub none-overtaken-second : (k : Command) (c : Call) (w : World) (t u : ℕ) (earlier later : List ℕ) → arrivals (w .state) ≡ earlier ++ u ∷ later
-    → elem t earlier ≡ false → (matches k c (threadOf (w .state) u) && sleepsAt (c .process) (c .uaddr2) (w .state) u) ≡ true
-    → elem t (releasedSecond k c w) ≡ true → elem u (released k c (w .state) ++ releasedSecond k c w) ≡ true
-none-overtaken-second = Order.second-overtaken
+pub none-overtaken-second : (k : Command) (c : Call) (w : World) → tablesOk (w .state) ≡ true
+    → (t : ℕ) → (matches k c (threadOf (w .state) t) && sleepsAt (c .process) (c .uaddr2) (w .state) t) ≡ true
+    → (u : ℕ) → elem t (released k c (w .state) ++ releasedSecond k c w) ≡ false → elem u (releasedSecond k c w) ≡ true → GoesBefore (w .state) u t
+none-overtaken-second k c w h = Order.second-overtaken k c w (tables-sound (w .state) h)
+
+-- "The stop key goes first": a sleeper whose priority is higher than that of all others that the call matches there is the first that is released, if
+-- the cap is above 0,
+pub stop-key-first : (k : Command) (c : Call) (s : State) → tablesOk s ≡ true → (t : ℕ) → (matches k c (threadOf s t) && sleepsAt (c .process) (c .uaddr) s t) ≡ true
+    → ((u : ℕ) → (matches k c (threadOf s u) && sleepsAt (c .process) (c .uaddr) s u) ≡ true → (u ≡ t → ⊥) → threadOf s u .priority < threadOf s t .priority)
+    → 0 < c .val → (rest : List ℕ) × (released k c s ≡ t ∷ rest)
+stop-key-first k c s h = Order.released-leads k c s (tables-sound s h)
+
+-- and so runs after any such call that is answered a count, whatever else sleeps.
+pub stop-key-runs : (c : Call) (w : World) (n t : ℕ) → step (CallEvent c) w .answer ≡ Count n → 0 < c .val
+    → (matches (commandOf (c .op)) c (before w t) && sleepsAt (c .process) (c .uaddr) (w .state) t) ≡ true
+    → ((u : ℕ) → (matches (commandOf (c .op)) c (before w u) && sleepsAt (c .process) (c .uaddr) (w .state) u) ≡ true → (u ≡ t → ⊥) → before w u .priority < before w t .priority)
+    → after (CallEvent c) w t ≡ ended Woken (before w t)
+stop-key-runs = Order.leader-runs
+
+-- "in any tables whose priorities are all equal, each event's answer and all that it leaves stay as before, and that is to be proved": for every event,
+-- any such tables, sound or not, and any words.
+pub as-before-order : (e : Event) (w : World) → Level (w .state) → step e w ≡ stepByArrival e w
+as-before-order e w level = Level′.as-before w level e
 
 -- How many: as many as the cap and the matching sleepers allow, and then as many of the rest as the second cap allows.
 pub how-many : (k : Command) (c : Call) (s : State) → tablesOk s ≡ true
@@ -225,7 +254,8 @@ pub how-many : (k : Command) (c : Call) (s : State) → tablesOk s ≡ true
     (length (released k c s) ≡ min (c .val) there) × (length (moved k c s) ≡ min (secondCap c) (there - c .val))
 how-many k c s h = (Order.released-many k c s (tables-sound s h), Order.moved-many k c s (tables-sound s h))
 
--- Those run, or move with mask and deadline kept; every other record and the order of every other entry are as they were.
+-- Those run, or move with mask and deadline kept, to the list's end "in the order in which they were taken"; every other record and the order of every
+-- other entry are as they were.
 pub takes-first : (c : Call) (w : World) (n : ℕ) → step (CallEvent c) w .answer ≡ Count n
     → Takes (commandOf (c .op)) c w (step (CallEvent c) w .world)
 takes-first = Taken.takes-first
@@ -350,6 +380,10 @@ calls-of-cases = Cases.called-given
 pub priorities-of-cases : map prioritisedAs prioritised ≡ prioritised
 priorities-of-cases = Cases.prioritised-given
 
+-- whom a wake or requeue takes by priority, beside whom it took by arrival,
+pub orders-of-cases : map chosenAs choices ≡ choices
+orders-of-cases = Cases.choices-given
+
 -- what each process is answered and what is kept for it of one history of several,
 pub mixed-history : map shareOf shares ≡ shares
 mixed-history = Cases.shares-given
@@ -376,7 +410,8 @@ rules-kept-always words n h =
 -- Demand 3, for any number p: "Take any of the eight processes and any two histories .. Both start from the fresh state over
 -- full-length memory, with equal words for that process. .. Strike from both the events that name another process. If equal lists
 -- are left, clock events included, then, whatever the other processes did, that process's events got the same answers in the same
--- order .. At the end its words, its thread records and the order of its sleepers are the same too." An answer has its reason in it.
+-- order .. At the end its words, its thread records and the order of its sleepers are the same too." An answer has its reason in it; the order of
+-- sleepers is that of the list.
 pub isolation : (p : ℕ) (us vs : List ℕ) → length us ≡ memoryWords → length vs ≡ memoryWords
     → ((a : ℕ) → a < bytesPerProcess → wordAt (start us) p a ≡ wordAt (start vs) p a)
     → (g h : List Event) → keptFor p g ≡ keptFor p h

@@ -1,25 +1,28 @@
 -- The rules before each request that changed them: those that hold now, with the one thing that the request changed as it was. They stand here
 -- for the comparisons with the rules that hold now (proofs/Theorems.antt), and nothing else uses them.
+use mathlib.Core.Path.{_≡_}
 use mathlib.Core.Bool.{Bool, true, false, not, cond, _&&_, _||_}
 use mathlib.Core.List.{List, [], _∷_, _++_, map}
-use Prim.Native.Nat.{ℕ, _%_, _^_}
+use Prim.Native.Nat.{ℕ, _%_, _^_, _<_}
+use lib.ListN.{length}
 use lib.Dec.{eqb, leb, ltb}
 use lib.IntN.{ℤ, pos, negℤ}
+use Rattle.tables.specs.declared.State.{State}
 use Rattle.rules.specs.declared.event.Command.{Command}
 use Rattle.rules.specs.declared.event.Call.{Call}
 use Rattle.rules.specs.declared.event.Event.{Event}
 use Rattle.rules.specs.declared.answer.Errno.the-variants.{EINVAL}
 use Rattle.rules.specs.declared.answer.Answer.{Answer}
 use Rattle.rules.specs.declared.answer.Answer.the-variants.{Asleep, Count, Refused, Waiting}
-use Rattle.tables.specs.Editions.{present}
+use Rattle.tables.specs.Editions.{byArrival, Edition, edition, present}
 use Rattle.tables.specs.Sizes.{threads, wordBits}
-use Rattle.tables.specs.Tables.{World, threadOf, wordAt}
-use Rattle.rules.specs.Answers.{answerNumbers, Row, plain, _when_, byRows, first, Outcome, outcome, judged}
+use Rattle.tables.specs.Tables.{WorldIn, World, threadOf, wordAt}
+use Rattle.rules.specs.Answers.{answerNumbers, Row, plain, _when_, byRows, first, OutcomeIn, Outcome, outcome, judged}
 use Rattle.rules.specs.Commands.{commandOf}
 use Rattle.rules.specs.Signed.{negative}
 use Rattle.rules.specs.WakeOp.{argBits, cmpField, opArgField, cmpArgField, isPower, opCode, operate, compareBy}
 use Rattle.rules.specs.Calls.{firstRows, caller, badArgument, isWakeOp, tableWith, oldWord, secondBy, wakeOpBy}
-use Rattle.rules.specs.Events.{ownRows, isQuery, ofCall, refusals, effect}
+use Rattle.rules.specs.Events.{ownRows, isQuery, ofCall, refusals, effect, step}
 
 -- Before request (i): document 01's one row for -22, and no reason beside any error.
 
@@ -105,3 +108,23 @@ judgedWith12 rows applies o w =
 
 unfoldable pub stepWith12 : Event → World → OutcomeWith12
 stepWith12 e w = judgedWith12 (refusals e w) (full e w) (effect e w) w
+
+-- Before request (vii): a wake or requeue took the matching sleepers in list order, whatever their priorities. That is another edition of the rules.
+
+abbrev pub takenByArrival : Edition → Edition
+takenByArrival ed = edition (ed .perProcess) byArrival
+
+-- the same tables and words, under that edition
+abbrev pub underArrival : {ed : Edition} → WorldIn ed → WorldIn (takenByArrival ed)
+underArrival w = record { state = w .state; words = w .words }
+
+-- what they leave, as an outcome of the edition that is compared
+abbrev pub backTo : (ed : Edition) → OutcomeIn (takenByArrival ed) → OutcomeIn ed
+backTo ed o = outcome (o .answer) (record { state = o .world .state; words = o .world .words })
+
+unfoldable pub stepByArrival : {ed : Edition} → Event → WorldIn ed → OutcomeIn ed
+stepByArrival {ed} e w = backTo ed (step e (underArrival w))
+
+-- "tables whose priorities are all equal"
+abbrev pub Level : State → Type 0
+Level s = (t u : ℕ) → t < length (s .threads) → u < length (s .threads) → threadOf s t .priority ≡ threadOf s u .priority

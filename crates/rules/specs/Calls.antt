@@ -134,12 +134,13 @@ maskOf k c = cond (uses k .mask) (c .val3) matchAny
 abbrev pub matches : Command → Call → Thread → Bool
 matches k c r = not (uses k .mask) || sharesBit (c .val3) r
 
--- threads in the order in which they are taken
+-- Threads that stand in list order, in the order in which a wake or requeue takes them: "From now on wake and requeue take matching sleepers by
+-- higher base priority, and by arrival among equals."
 abbrev pub ordered : Order → State → List ℕ → List ℕ
 ordered byArrival s l = l
 ordered byPriority s l = fromHighest (λ t. threadOf s t .priority) maxPriority l
 
--- The sleepers of a word that a wake or requeue may take, in the order in which it takes them. No other definition chooses.
+-- The sleepers of a word that a wake or requeue may take, in that order. No other definition chooses.
 unfoldable pub candidatesIn : Edition → (Thread → Bool) → ℕ → ℕ → State → List ℕ
 candidatesIn ed q p a s = ordered (ed .order) s (filter (λ t. q (threadOf s t)) (queueIn ed p a s))
 
@@ -153,7 +154,7 @@ releasedIn ed k c s = take (c .val) (candidatesIn ed (matches k c) (c .process) 
 abbrev pub released : Command → Call → State → List ℕ
 released k c s = releasedIn present k c s
 
--- "then the next sleepers, up to the second cap"
+-- "then the next sleepers, up to the second cap", in the order in which they are taken, in which they join the list's end
 unfoldable pub movedIn : Edition → Command → Call → State → List ℕ
 movedIn ed k c s = take (secondCap c) (drop (c .val) (candidatesIn ed (matches k c) (c .process) (c .uaddr) s))
 

@@ -42,7 +42,7 @@ waitFor i a v = callBy i 0 a v 0 0 0 0
 abbrev pub waitUntil : ℕ → ℕ → ℕ → Event
 waitUntil i v timeout = callBy i 0 address v 1 timeout 0 0
 
-abbrev waitMask : ℕ → ℕ → Event
+abbrev pub waitMask : ℕ → ℕ → Event
 waitMask i m = callBy i 9 address 0 0 0 0 m
 
 abbrev pub byWaker : ℕ → ℕ → ℕ → ℕ → ℕ → ℕ → Event
@@ -164,8 +164,8 @@ further =
     ∷ line (waitFor 0 address 0 ∷ callBy 0 1 address 1 0 0 0 0 ∷ []) (asleep ∷ minus 16 ∷ []) (at 0 address ∷ []) [] 0
     -- a store: not aligned -22, outside -14
     ∷ line (Store 0 9 1 ∷ Store 0 4096 1 ∷ Store 0 4097 1 ∷ Store 0 address 7 ∷ []) (minus 22 ∷ minus 14 ∷ minus 22 ∷ number 0 ∷ []) [] [] 7
-    -- priorities change nothing of whom a wake takes: the first in the list
-    ∷ line (waitFor 0 address 0 ∷ waitFor 1 address 0 ∷ SetPriority 0 1 31 ∷ byWaker 1 address 1 0 0 0 ∷ []) (asleep ∷ asleep ∷ number 0 ∷ number 1 ∷ []) (at 1 address ∷ []) (woken 0 ∷ []) 0
+    -- a wake takes the sleeper of the higher priority, and not the first in the list
+    ∷ line (waitFor 0 address 0 ∷ waitFor 1 address 0 ∷ SetPriority 0 1 31 ∷ byWaker 1 address 1 0 0 0 ∷ []) (asleep ∷ asleep ∷ number 0 ∷ number 1 ∷ []) (at 0 address ∷ []) (woken 1 ∷ []) 0
     -- WAKE_OP with an undefined operation or comparison: -38, and the word stays
     ∷ line (wakeOpAt 0x50000000 ∷ wakeOpAt 0x06000000 ∷ []) (minus 38 ∷ minus 38 ∷ []) [] [] 0
     ∷ []

@@ -6,7 +6,7 @@ use mathlib.Core.Logic.{_⊎_}
 use Prim.Native.Nat.{ℕ, _%_, _<_}
 use lib.ListN.{length, set}
 use lib.Dec.{eqb}
-use Rattle.lists.specs.Lists.{filter, elem, without, countBelow}
+use Rattle.lists.specs.Lists.{filter, elem, StandsBefore, without, countBelow}
 use Rattle.tables.specs.declared.State.{State}
 use Rattle.tables.specs.declared.Thread.{Thread}
 use Rattle.tables.specs.declared.LastAnswer.{LastAnswer}
@@ -92,6 +92,12 @@ wokenBy k c w = released k c (w .state) ++ cond (isWakeOp k) (releasedSecond k c
 
 abbrev pub movedBy : Command → Call → World → List ℕ
 movedBy k c w = cond (uses k .moves) (moved k c (w .state)) []
+
+-- u goes before t: "by higher base priority, and by arrival among equals".
+abbrev pub GoesBefore : State → ℕ → ℕ → Type 0
+GoesBefore s u t =
+    (threadOf s t .priority < threadOf s u .priority)
+    ⊎ ((threadOf s u .priority ≡ threadOf s t .priority) × StandsBefore u t (arrivals s))
 
 -- From s to u, the threads `out` ran with the answer a, the threads `on` went to the target and to the list's end, and every other
 -- record and the order of every other entry are as they were.

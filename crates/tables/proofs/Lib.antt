@@ -1,3 +1,4 @@
+pub mod Editions
 pub mod Changes
 pub mod Sound
 pub mod Kept

@@ -1,31 +1,32 @@
 -- The arrival list as it is stored: it names threads, and what is split off it and joined to it is what the changes leave.
 use mathlib.Core.Path.{_≡_, refl, sym, ap, _∙_, subst₂}
-use mathlib.Core.Bool.{Bool, true, false}
-use mathlib.Core.List.{List, [], _∷_, _++_}
+use mathlib.Core.Bool.{Bool, true, false, not}
+use mathlib.Core.List.{List, [], _∷_, _++_, append-nil}
 use Prim.Native.Nat.{ℕ, _+_, _-_, _≤_, _<_}
 use native.Mathlib.Omega.{arith}
-use lib.ListN.{length, take, drop, getD, set, replicate, length-append, List·getD-append}
-use lib.Seq.{take-add}
+use lib.ListN.{length, take, drop, getD, set, replicate, length-append, length-drop, List·getD-append}
+use lib.Seq.{take-add, length-take-le, getD-take}
 use lib.Dec.{ltb}
 use borrow.Author.Tests.{ltb-true}
-use Rattle.lists.specs.Lists.{filter, all, without, padTo, leftOver}
-use Rattle.lists.proofs.Filter.{all-filtered, all-take, filter-true}
-use Rattle.lists.proofs.Occurs.{elem-all, elem-getD, filter-agree, without-append}
+use Rattle.lists.specs.Lists.{filter, all, elem, without, padTo}
+use Rattle.lists.proofs.Tests.{cases}
+use Rattle.lists.proofs.Filter.{all-filtered, length-filter, filter-true}
+use Rattle.lists.proofs.Occurs.{elem-all, elem-getD, elem-filter, elem-filtered-out, occurs-distinct, filter-agree, without-append}
 use Rattle.lists.proofs.Loops.{length-snoc, padTo-snoc}
-use Rattle.lists.proofs.LeftOver.{without-taken, length-parts}
+use Rattle.lists.proofs.Padded.{take-padded}
 use Rattle.tables.specs.declared.State.{State}
 use Rattle.tables.specs.declared.Thread.{Thread}
 use Rattle.tables.specs.declared.LastAnswer.{LastAnswer}
-use Rattle.tables.specs.declared.LastAnswer.the-variants.{Woken}
 use Rattle.tables.specs.declared.Change.the-variants.{End, MoveTo}
-use Rattle.arrivals.specs.declared.Found.{Found}
+use Rattle.arrivals.specs.declared.Split.{Split}
+use Rattle.arrivals.specs.Arrivals.{Listed}
+use Rattle.arrivals.proofs.Places.{length-without}
 use Rattle.tables.specs.Sizes.{threads, noEntry}
 use Rattle.tables.specs.Editions.{present}
-use Rattle.tables.specs.Tables.{freshThread, threadOf, arrivals, change, withThreads, ended, withPriority, endIn, endSleeps, moveIn, sleepIn, fallAsleep, setPriority, asleepAt}
-use Rattle.tables.specs.Steps.{changedBy, Numbers, Flags, flagged, foundOf, endFirst, requeueFirst}
+use Rattle.tables.specs.Tables.{freshThread, threadOf, arrivals, change, withThreads, ended, movedTo, withPriority, endIn, endSleeps, moveIn, moveSleeps, sleepIn, fallAsleep, setPriority, asleepAt}
+use Rattle.tables.specs.Steps.{changedBy, Numbers, Flags, flagged, splitOf, endFlagged, Taking}
 use Rattle.tables.proofs.Changes.{arrivals-end, change-none, change-one}
-use Rattle.arrivals.proofs.Theorems.{taken-stored, found-released, found-moved, found-left}
-use Rattle.tables.proofs.Sound.{Sound, listed-below, all-low, once, arrivals-fit, room}
+use Rattle.tables.proofs.Sound.{Sound, listed-below, all-low, once, arrivals-fit, few, room}
 
 -- a list of thread numbers, stored
 stored-numbers : (ts : List ℕ) → length ts ≤ threads → all (λ t. ltb t threads) ts ≡ true → Numbers (padTo threads noEntry ts) (length ts)
@@ -47,109 +48,99 @@ module _ (s : State) (g : Sound s) where
   pub list-numbers : Numbers (s .list) (s .count)
   list-numbers = subst₂ Numbers (sym (g .stored)) (sym (g .counted)) (stored-numbers (arrivals s) (arrivals-fit s g) (all-low s g))
 
-  pub taken-fit : (f : ℕ → Bool) (cap : ℕ) → length (take cap (filter f (arrivals s))) ≤ threads
-  taken-fit f cap = omega (arith, length-parts f (arrivals s) cap, arrivals-fit s g)
-
-  -- whom a search takes
-  module _ (f : ℕ → Bool) (cap cap2 : ℕ) where
+  -- those who pass, and the others
+  module _ (f : ℕ → Bool) (x : Split) (is : x ≡ splitOf f (arrivals s)) where
     abbrev found : List ℕ
     found = filter f (arrivals s)
 
-    abbrev rs : List ℕ
-    rs = take cap found
+    split-few : x .n ≤ threads
+    unfolding splitOf
+    split-few = rw is (omega (arith, length-filter f (arrivals s), arrivals-fit s g))
 
-    abbrev ms : List ℕ
-    ms = take cap2 (drop cap found)
+    pub split-numbers : Numbers (x .taken) (x .n)
+    unfolding splitOf
+    split-numbers = rw is (stored-numbers found (omega (arith, length-filter f (arrivals s), arrivals-fit s g)) (all-filtered (λ t. ltb t threads) f (arrivals s) (all-low s g)))
 
-    both : take (cap + cap2) found ≡ rs ++ ms
-    both = take-add cap cap2 found
+    split-are : take (x .n) (x .taken) ≡ found
+    unfolding splitOf
+    split-are = rw is (take-padded threads noEntry found)
 
-    fit : length (rs ++ ms) ≤ threads
-    fit = omega (arith, ap length both, taken-fit f (cap + cap2))
+    -- the sleeps that end
+    pub ends : (a : LastAnswer) (u : State) → u ≡ withThreads (change (changedBy (End a)) (take (x .n) (drop 0 (x .taken))) (s .threads)) s
+        → record { state = record { clock = u .clock; threads = u .threads; list = x .left; count = x .count }; n = x .n } ≡ endFlagged a f s
+    unfolding endFlagged endIn splitOf
+    ends a u new =
+        let left : filter (λ t. not (f t)) (arrivals s) ≡ without found (arrivals s) =
+        filter-agree (λ t. not (f t)) (λ t. not (elem t found)) (arrivals s) (λ t e. ap not (passes t e)) in
+        cc (split-are, left)
+      where
+        passes : (t : ℕ) → elem t (arrivals s) ≡ true → f t ≡ elem t (filter f (arrivals s))
+        passes t e = cases (f t)
+            (λ d. rw d (sym (elem-filter f t (arrivals s) d ∙ e)))
+            (λ d. rw d (sym (elem-filtered-out f t (arrivals s) d)))
 
-    low : all (λ t. ltb t threads) (rs ++ ms) ≡ true
-    low = ap (all (λ t. ltb t threads)) (sym both) ∙ all-take (λ t. ltb t threads) (cap + cap2) _ (all-filtered (λ t. ltb t threads) f (arrivals s) (all-low s g))
+  -- threads that are taken out of the list, of whom some join its end
+  module _ (place ts : List ℕ) (n m : ℕ) (h : Taking place ts (n + m) s) (long : length ts ≡ threads) where
+    pub taking-listed : Listed (s .list) (s .count) place ts (n + m)
+    taking-listed =
+        record {
+          listing =
+              record {
+                stored = g .stored;
+                few = few s g;
+                low = all-low s g;
+                apart = occurs-distinct (arrivals s) (once s g);
+                places = h .places;
+              };
+          few = h .few;
+          each = h .each;
+          apart = h .apart;
+        }
 
-    -- what such a search hands back
-    module _ (x : Found) (is : x ≡ foundOf f cap cap2 (arrivals s)) where
-      released-is : x .released ≡ length rs
-      unfolding foundOf
-      released-is = ap (λ (y : Found). y .released) is
+    pub taking-numbers : Numbers ts (n + m)
+    taking-numbers =
+        record {
+          few = h .few;
+          below = λ k less.
+              let there : length (take (n + m) ts) ≡ n + m = length-take-le (n + m) ts (omega (arith, h .few)) in
+              let x : getD (take (n + m) ts) k 0 ≡ getD ts k 0 = getD-take (n + m) ts k 0 less in
+              listed-below s g (getD ts k 0) (sym (ap (λ e. elem e (arrivals s)) x) ∙ elem-all (λ t. elem t (arrivals s)) (take (n + m) ts) (h .each) (getD (take (n + m) ts) k 0) (elem-getD (take (n + m) ts) k 0 (omega (arith, there))));
+        }
 
-      moved-is : x .moved ≡ length ms
-      unfolding foundOf
-      moved-is = ap (λ (y : Found). y .moved) is
+    -- what is left of the list
+    pub taking-counted : length (without (take (n + m) ts) (arrivals s)) + (n + m) ≡ s .count
+    taking-counted = omega (
+      arith,
+      length-without (take (n + m) ts) (arrivals s) (h .apart) (h .each) (occurs-distinct (arrivals s) (once s g)),
+      length-take-le (n + m) ts (omega (arith, h .few)),
+      g .counted,
+    )
 
-      left-is : x .left ≡ padTo threads noEntry (leftOver f (cap + cap2) (arrivals s))
-      unfolding foundOf
-      left-is = ap (λ (y : Found). y .left) is
-
-      count-is : x .count ≡ length (leftOver f (cap + cap2) (arrivals s))
-      unfolding foundOf
-      count-is = ap (λ (y : Found). y .count) is
-
-      pub taken-numbers : Numbers (x .taken) (x .released + x .moved)
-      taken-numbers =
-          let stored : x .taken ≡ padTo threads noEntry (rs ++ ms) = ap (λ (y : Found). y .taken) is ∙ taken-stored f cap cap2 (arrivals s) in
-          let counts : x .released + x .moved ≡ length (rs ++ ms) = omega (arith, released-is, moved-is, length-append rs ms) in
-          subst₂ Numbers (sym stored) (sym counts) (stored-numbers (rs ++ ms) fit low)
-
-      released-are : take (x .released) (x .taken) ≡ rs
-      released-are = ap (λ (y : Found). take (y .released) (y .taken)) is ∙ found-released f cap cap2 (arrivals s)
-
-      moved-are : take (x .moved) (drop (x .released) (x .taken)) ≡ ms
-      moved-are = ap (λ (y : Found). take (y .moved) (drop (y .released) (y .taken))) is ∙ found-moved f cap cap2 (arrivals s)
-
-      left-are : take (x .count) (x .left) ≡ leftOver f (cap + cap2) (arrivals s)
-      left-are = ap (λ (y : Found). take (y .count) (y .left)) is ∙ found-left f cap cap2 (arrivals s)
-
-      pub joins : (x .left ≡ padTo threads noEntry (take (x .count) (x .left))) × ((x .count + x .moved ≤ threads) × (x .released + x .moved ≤ threads))
-      joins = (
-        left-is ∙ ap (padTo threads noEntry) (sym left-are),
-        (
-          omega (arith, count-is, moved-is, ap length both, length-append rs ms, length-parts f (arrivals s) (cap + cap2), arrivals-fit s g),
-          omega (arith, released-is, moved-is, length-append rs ms, fit),
-        ),
-      )
-
-  -- a search with one cap ends their sleep
-  pub ends-first : (f : ℕ → Bool) (cap : ℕ) (a : LastAnswer) (x : Found) → x ≡ foundOf f cap 0 (arrivals s)
-      → (u : State) → u ≡ withThreads (change (changedBy (End a)) (take (x .released) (drop 0 (x .taken))) (s .threads)) s
-      → record { state = record { clock = u .clock; threads = u .threads; list = x .left; count = x .count }; n = x .released } ≡ endFirst a f cap s
-  unfolding endFirst endIn
-  ends-first f cap a x is u new =
-      let one : cap + 0 ≡ cap = omega arith in
-      let left : leftOver f (cap + 0) (arrivals s) ≡ without (take cap (filter f (arrivals s))) (arrivals s) =
-      ap (λ k. leftOver f k (arrivals s)) one ∙ sym (without-taken f (arrivals s) cap (once s g)) in
-      cc (released-are f cap 0 x is, left, left-is f cap 0 x is, count-is f cap 0 x is, released-is f cap 0 x is)
-
-  -- one with two caps ends the sleep of the first, and moves the next
-  pub requeues-first : (f : ℕ → Bool) (cap cap2 a : ℕ) (x : Found) → x ≡ foundOf f cap cap2 (arrivals s)
-      → (u : State) → u ≡ withThreads (change (changedBy (End Woken)) (take (x .released) (drop 0 (x .taken))) (s .threads)) s
-      → (v : State) → v ≡ withThreads (change (changedBy (MoveTo a)) (take (x .moved) (drop (x .released) (x .taken))) (u .threads)) u
-      → (l : List ℕ) → l ≡ padTo threads noEntry (take (x .count) (x .left) ++ take (x .moved) (drop (x .released) (x .taken)))
-      → record { state = record { clock = v .clock; threads = v .threads; list = l; count = x .count + x .moved }; released = x .released; moved = x .moved }
-      ≡ requeueFirst a f cap cap2 s
-  unfolding requeueFirst endIn moveIn
-  requeues-first f cap cap2 a x is u first v next l all =
-      let r = rs f cap cap2 in
-      let m = ms f cap cap2 in
-      let stay = without m (arrivals (endSleeps Woken r s)) in
-      let gone : stay ≡ leftOver f (cap + cap2) (arrivals s) =
-      ap (without m) (arrivals-end present Woken r s) ∙ without-append r m (arrivals s) ∙ ap (λ ts. without ts (arrivals s)) (sym (both f cap cap2))
-      ∙ without-taken f (arrivals s) (cap + cap2) (once s g) in
-      let released = first ∙ ap (λ ts. withThreads (change (changedBy (End Woken)) ts (s .threads)) s) (released-are f cap cap2 x is) in
-      let moved : v ≡ withThreads (change (changedBy (MoveTo a)) m (change (changedBy (End Woken)) r (s .threads))) s =
-      next ∙ (λ j. withThreads (change (changedBy (MoveTo a)) (moved-are f cap cap2 x is j) (released j .threads)) (released j)) in
-      let list : l ≡ padTo threads noEntry (stay ++ m) =
-      all ∙ ap (padTo threads noEntry) ((λ j. left-are f cap cap2 x is j ++ moved-are f cap cap2 x is j) ∙ ap (_++ m) (sym gone)) in
-      let count : x .count + x .moved ≡ length (stay ++ m) =
-      omega (arith, count-is f cap cap2 x is, moved-is f cap cap2 x is, ap length gone, length-append stay m) in
-      λ j. record {
-        state = record { clock = moved j .clock; threads = moved j .threads; list = list j; count = count j };
-        released = released-is f cap cap2 x is j;
-        moved = moved-is f cap cap2 x is j;
-      }
+    pub takes : (a : LastAnswer) (to : ℕ) (u : State) → u ≡ withThreads (change (changedBy (End a)) (take n (drop 0 ts)) (s .threads)) s
+        → (v : State) → v ≡ withThreads (change (changedBy (MoveTo to)) (take m (drop n ts)) (u .threads)) u
+        → (l : List ℕ) → l ≡ padTo threads noEntry (without (take (n + m) ts) (arrivals s) ++ take m (drop n ts))
+        → record { clock = v .clock; threads = v .threads; list = l; count = s .count - n } ≡ moveSleeps to (take m (drop n ts)) (endSleeps a (take n ts) s)
+    unfolding endIn moveIn
+    takes a to u first v next l all =
+        let rs = take n ts in
+        let ms = take m (drop n ts) in
+        let stay = without ms (arrivals (endSleeps a rs s)) in
+        let gone : stay ≡ without (take (n + m) ts) (arrivals s) =
+        ap (without ms) (arrivals-end present a rs s) ∙ without-append rs ms (arrivals s) ∙ ap (λ us. without us (arrivals s)) (sym (take-add n m ts)) in
+        let list : l ≡ padTo threads noEntry (stay ++ ms) = all ∙ ap (λ us. padTo threads noEntry (us ++ ms)) (sym gone) in
+        let count : s .count - n ≡ length (stay ++ ms) = omega (
+          arith,
+          length-append stay ms,
+          ap length gone,
+          taking-counted,
+          length-take-le m (drop n ts) (omega (arith, h .few, length-drop n ts)),
+        ) in
+        λ j. record {
+          clock = (ap (λ (x : State). x .clock) next ∙ ap (λ (x : State). x .clock) first) j;
+          threads = (ap (λ (x : State). x .threads) next ∙ ap (λ (x : State). change (changedBy (MoveTo to)) ms (x .threads)) first) j;
+          list = list j;
+          count = count j;
+        }
 
 -- a thread that falls asleep
 pub falls-asleep : (s : State) → Sound s → (t a m : ℕ) (timed : Bool) (due : ℕ) (new : Thread) → t < threads → threadOf s t .waiting ≡ false
@@ -182,4 +173,14 @@ end-nobody a s g =
     let records = change-none (ended a) (s .threads) in
     let list = ap (padTo threads noEntry) (filter-true (arrivals s)) ∙ sym (g .stored) in
     let count = ap length (filter-true (arrivals s)) ∙ sym (g .counted) in
+    λ i. record { clock = s .clock; threads = records i; list = list i; count = count i }
+
+-- nor does moving nobody
+pub move-nobody : (a : ℕ) (s : State) → Sound s → moveSleeps a [] s ≡ s
+unfolding moveIn
+move-nobody a s g =
+    let all : without [] (arrivals s) ++ [] ≡ arrivals s = append-nil (without [] (arrivals s)) ∙ filter-true (arrivals s) in
+    let records = change-none (movedTo a) (s .threads) in
+    let list = ap (padTo threads noEntry) all ∙ sym (g .stored) in
+    let count = ap length all ∙ sym (g .counted) in
     λ i. record { clock = s .clock; threads = records i; list = list i; count = count i }

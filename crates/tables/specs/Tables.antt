@@ -204,7 +204,7 @@ endSleeps a ts s = endIn present a ts s
 abbrev pub movedTo : ℕ → Thread → Thread
 movedTo a r = withSleep (r .waiting) a (r .bitset) (r .timed) (r .deadline) r
 
--- "move to uaddr2, joining the end of the arrival list in their order"
+-- "move to uaddr2, joining the end of the arrival list"; "Requeued threads join the list's end in the order in which they were taken"
 unfoldable pub moveIn : Edition → ℕ → List ℕ → State → State
 moveIn ed a ts s = withArrivals ed (without ts (arrivals s) ++ ts) (withThreads (change (movedTo a) ts (s .threads)) s)
 

@@ -1,17 +1,19 @@
 // The table rules, in one pass over the list and one over the records.
 ghost use mathlib.Core.Path.{_≡_};
 ghost use mathlib.Core.Bool.{_&&_, Bool·beq};
-ghost use Rattle.lists.specs.Lists.{everyBelow};
+ghost use lib.Dec.{eqb};
+ghost use Rattle.lists.specs.Lists.{everyBelow, countBelow};
 ghost use Rattle.tables.specs.Sizes.{threads};
 ghost use Rattle.tables.specs.Tables.{threadOf, sleepOk, recordOk, recordsOk, tablesOk};
-ghost use Rattle.tables.specs.Steps.{flagged};
+ghost use Rattle.tables.specs.Steps.{placed};
 use crate::MAX_PRIORITY;
 use crate::PROCESS_BYTES;
 use crate::State;
 use crate::THREADS;
 use crate::Thread;
 use crate::WORD_BYTES;
-use arrivals::seen_in;
+use arrivals::one_if;
+use arrivals::places_in;
 use arrivals::tail_ok;
 
 fn sleep_ok(t: Thread, now: u64) -> bool
@@ -33,20 +35,23 @@ fn record_ok(t: Thread, now: u64) -> bool
     sleep & (t.priority <= MAX_PRIORITY)
 }
 
-// The records keep their rules, and the marked threads are the waiting ones.
-fn records_ok(s: State, marks: [bool; THREADS]) -> bool
-    ensures { λ r. ⌜ r ≡ (everyBelow threads (λ t. Bool·beq (flagged marks t) (threadOf s t .waiting)) && recordsOk s) ⌝ }
+// The records keep their rules, those wait that have a place in the list, and as many as the list counts.
+fn records_ok(s: State, place: [u8; THREADS]) -> bool
+    ensures { λ r. ⌜ r ≡ (everyBelow threads (λ t. Bool·beq (placed place t) (threadOf s t .waiting)) && recordsOk s && eqb (countBelow threads (λ t. threadOf s t .waiting)) (s .count)) ⌝ }
 {
     let now = s.clock;
     let mut ok = true;
+    let mut n: usize = 0;
     let mut i: usize = 0;
     while i < THREADS {
         let t = s.threads[i];
         let good = record_ok(t, now);
-        ok = ok & good & (marks[i] == t.waiting);
+        let there = place[i] != 0;
+        ok = ok & good & (there == t.waiting);
+        n += one_if(t.waiting);
         i += 1;
     }
-    ok
+    ok & (n == s.count)
 }
 
 // The tables keep the table rules.
@@ -57,9 +62,9 @@ pub fn tables_ok(s: State) -> bool
         return false;
     }
     let list = s.list;
-    let seen = seen_in(list, s.count);
+    let found = places_in(list, s.count);
     let tail = tail_ok(list, s.count);
-    let marks = seen.marks;
-    let records = records_ok(s, marks);
-    seen.ok & tail & records
+    let place = found.place;
+    let records = records_ok(s, place);
+    found.low & tail & records
 }

@@ -1,20 +1,19 @@
 // Tables: what the kernel keeps, a clock, a record for each thread and the arrival list with its count; their rules and changes. It stands on arrivals.
 ghost use mathlib.Core.Path.{_≡_};
-ghost use mathlib.Core.Bool.{true, false, _&&_, _||_};
+ghost use mathlib.Core.Bool.{true, false};
 ghost use Prim.Native.Nat.{_+_, _<_};
 ghost use lib.ListN.{take, drop};
-ghost use lib.Dec.{eqb};
-ghost use Rattle.tables.specs.Sizes.{processes, threads};
-ghost use Rattle.tables.specs.Tables.{freshThread, storedDeadline, withSleep, withLast, ended, movedTo, withPriority, asleepAt, expired, sharesBit, sleepsAt, threadOf, fresh, change, withThreads, fallAsleep, setPriority, tablesOk};
-ghost use Rattle.tables.specs.Steps.{changedBy, Numbers, Flags, flagged, endFirst, requeueFirst};
+ghost use Rattle.tables.specs.Sizes.{threads};
+ghost use Rattle.tables.specs.Tables.{freshThread, storedDeadline, withSleep, withLast, ended, movedTo, withPriority, asleepAt, expired, threadOf, fresh, change, withThreads, fallAsleep, endSleeps, moveSleeps, setPriority, tablesOk};
+ghost use Rattle.tables.specs.Steps.{changedBy, Numbers, Flags, flagged, endFlagged, Taking};
 
 pub mod check;
 
 pub use arrivals::PROCESSES;
 pub use arrivals::THREADS;
 use arrivals::index_of;
-use arrivals::joined;
-use arrivals::search;
+use arrivals::relisted;
+use arrivals::split_by;
 
 pub const WORDS: usize = PROCESSES * State::WORDS_PER_PROCESS;
 
@@ -159,27 +158,12 @@ impl Thread {
     {
         self.waiting & self.timed & (self.deadline <= now)
     }
-
-    // A sleeper at the address whom a wake may take: any, or one whose mask shares a bit.
-    pub fn is_hit(self, uaddr: u32, any: bool, bitset: u32) -> bool
-        ensures { λ r. ⌜ r ≡ ((any || sharesBit bitset self) && (self .waiting && eqb (self .uaddr) uaddr)) ⌝ }
-    {
-        let shares = self.bitset & bitset != 0;
-        (any | shares) & (self.waiting & (self.uaddr == uaddr))
-    }
 }
 
 // Tables after a change, and how many sleepers it took.
 pub struct Taken {
     pub state: State,
     pub n: u32,
-}
-
-// Tables after a requeue, how many sleepers it released and how many it moved.
-pub struct Requeued {
-    pub state: State,
-    pub released: u32,
-    pub moved: u32,
 }
 
 impl State {
@@ -219,44 +203,44 @@ impl State {
         self
     }
 
-    // The first cap sleepers whose flag is set end their sleep with the answer. The kernel calls it on tables that keep the rules.
-    pub fn end_first(self, flags: [bool; THREADS], cap: usize, last: LastAnswer) -> Taken
+    // The sleepers whose flag is set end their sleep with the answer. The kernel calls it on tables that keep the rules.
+    pub fn end_flagged(self, flags: [bool; THREADS], last: LastAnswer) -> Taken
         requires { ⌜ tablesOk self ≡ true ⌝ }
-        ensures { λ r. ⌜ r ≡ endFirst last (flagged flags) cap self ⌝ }
+        ensures { λ r. ⌜ r ≡ endFlagged last (flagged flags) self ⌝ }
     {
         let list = self.list;
-        let found = search(list, self.count, flags, cap, 0);
-        let n = found.released as u32;
-        let taken = found.taken;
-        let mut s = self.changed(taken, 0, found.released, Change::End(last));
-        let left = found.left;
+        let parts = split_by(list, self.count, flags);
+        let n = parts.n as u32;
+        let taken = parts.taken;
+        let mut s = self.changed(taken, 0, parts.n, Change::End(last));
+        let left = parts.left;
         s.list = left;
-        s.count = found.count;
+        s.count = parts.count;
         Taken { state: s, n: n }
     }
 
-    // One search for a requeue: the first cap sleepers whose flag is set are released, the next cap2 move to the address and to the end
-    // of the list. The kernel calls it as it does end_first.
-    pub fn requeue_first(self, flags: [bool; THREADS], cap: u32, cap2: u32, uaddr: u32) -> Requeued
-        requires { ⌜ tablesOk self ≡ true ⌝ }
-        ensures { λ r. ⌜ r ≡ requeueFirst uaddr (flagged flags) cap cap2 self ⌝ }
+    // The first n threads of ts end their sleep with the answer, the next m move to the address and to the end of the list; place says
+    // where each thread stands in it. The kernel calls it on tables that keep the rules.
+    pub fn take(
+        self,
+        place: [u8; THREADS],
+        ts: [u8; THREADS],
+        n: usize,
+        last: LastAnswer,
+        m: usize,
+        uaddr: u32,
+    ) -> Self
+        requires { ⌜ (tablesOk self ≡ true) × Taking place ts (n + m) self ⌝ }
+        ensures { λ r. ⌜ r ≡ moveSleeps uaddr (take m (drop n ts)) (endSleeps last (take n ts) self) ⌝ }
     {
         let list = self.list;
-        let found = search(list, self.count, flags, cap as usize, cap2 as usize);
-        let released = found.released as u32;
-        let moved = found.moved as u32;
-        let taken = found.taken;
-        let rest = self.changed(taken, 0, found.released, Change::End(LastAnswer::Woken));
-        let mut s = rest.changed(taken, found.released, found.moved, Change::MoveTo(uaddr));
-        let left = found.left;
-        let all = joined(left, found.count, taken, found.released, found.moved);
+        let count = self.count;
+        let all = relisted(list, count, place, ts, n, m);
+        let rest = self.changed(ts, 0, n, Change::End(last));
+        let mut s = rest.changed(ts, n, m, Change::MoveTo(uaddr));
         s.list = all;
-        s.count = found.count + found.moved;
-        Requeued {
-            state: s,
-            released: released,
-            moved: moved,
-        }
+        s.count = count - n;
+        s
     }
 
     // A running thread sleeps, and joins the end of the list, where there is room, since it is not there yet. The kernel calls it for a
@@ -290,23 +274,6 @@ impl State {
         let new = old.with_priority(priority);
         self.threads[t] = new;
         self
-    }
-
-    // Who sleeps at the word and may be taken. The kernel calls it for a process that exists.
-    pub fn hits(self, process: usize, uaddr: u32, any: bool, bitset: u32) -> [bool; THREADS]
-        requires { ⌜ process < processes ⌝ }
-        ensures { λ r. ⌜ Flags r (λ t. (any || sharesBit bitset (threadOf self t)) && sleepsAt process uaddr self t) ⌝ }
-    {
-        let mut flags = [false; THREADS];
-        let base = Self::THREADS_PER_PROCESS * process;
-        let mut i: usize = 0;
-        while i < Self::THREADS_PER_PROCESS {
-            let t = self.threads[base + i];
-            let hit = t.is_hit(uaddr, any, bitset);
-            flags[base + i] = hit;
-            i += 1;
-        }
-        flags
     }
 
     // Whose deadline has come.

@@ -1,12 +1,14 @@
 // Verdicts: the table of answers, every refusal of a call and of a set priority, on the few numbers that it reads. It stands on commands
 // and operations.
 ghost use mathlib.Core.Path.{_≡_};
-ghost use mathlib.Core.Bool.{cond};
-ghost use Rattle.rules.specs.declared.answer.Errno.the-variants.{EINVAL};
+ghost use mathlib.Core.Bool.{cond, _&&_};
+ghost use mathlib.Core.List.{[], _∷_};
+ghost use Rattle.rules.specs.declared.answer.Errno.the-variants.{ENOSYS, EINVAL, EFAULT, EAGAIN, ETIMEDOUT};
 ghost use Rattle.rules.specs.declared.answer.Verdict.the-variants.{Refuse};
-ghost use Rattle.rules.specs.Answers.{_because_, plain, byRows, first, reasonAmong};
+ghost use Rattle.rules.specs.Answers.{_because_, _when_, plain, first, reasonAmong};
 ghost use Rattle.rules.specs.Commands.{commandOf};
-ghost use Rattle.rules.specs.Calls.{noThread, badArgument, argumentRows, badAddress, differs, late, callRows};
+ghost use Rattle.rules.specs.WakeOp.{undefinedOp};
+ghost use Rattle.rules.specs.Calls.{noThread, badArgument, argumentRows, badAddress, isWakeOp, differs, late, callRows};
 ghost use Rattle.rules.specs.Events.{priorityRows};
 use commands::deadline_of;
 use commands::not_implemented;
@@ -27,32 +29,38 @@ use tables::WORD_BYTES;
 
 const MAX_CAP: u32 = 2147483647;
 
+// An error that has no reason beside it.
+fn refused(x: Errno) -> Verdict
+    ensures { λ r. ⌜ r ≡ Refuse (plain x) ⌝ }
+{
+    Verdict::Refuse(Refusal {
+        errno: x,
+        reason: Reason::NoReason,
+    })
+}
+
+// -22, with its reason.
+fn refused_for(reason: Reason) -> Verdict
+    ensures { λ r. ⌜ r ≡ Refuse (EINVAL because reason) ⌝ }
+{
+    Verdict::Refuse(Refusal {
+        errno: Errno::EINVAL,
+        reason: reason,
+    })
+}
+
 // A row of the table, before the rows below it.
 pub fn row(x: Errno, applies: bool, below: Verdict) -> Verdict
     ensures { λ r. ⌜ r ≡ cond applies (Refuse (plain x)) below ⌝ }
 {
-    if applies {
-        Verdict::Refuse(Refusal {
-            errno: x,
-            reason: Reason::NoReason,
-        })
-    } else {
-        below
-    }
+    if applies { refused(x) } else { below }
 }
 
 // A row for -22, with its reason.
 pub fn invalid(reason: Reason, applies: bool, below: Verdict) -> Verdict
     ensures { λ r. ⌜ r ≡ cond applies (Refuse (EINVAL because reason)) below ⌝ }
 {
-    if applies {
-        Verdict::Refuse(Refusal {
-            errno: Errno::EINVAL,
-            reason: reason,
-        })
-    } else {
-        below
-    }
+    if applies { refused_for(reason) } else { below }
 }
 
 pub fn no_thread(process: u8, index: u8) -> bool
@@ -104,15 +112,6 @@ pub fn wrong_argument(c: Call) -> Reason
     reason_if(Reason::FirstCap, u.cap & (MAX_CAP < c.val), r)
 }
 
-// The rows for -22, before the rows below them.
-fn arguments(c: Call, below: Verdict) -> Verdict
-    ensures { λ r. ⌜ r ≡ byRows Refuse (argumentRows (commandOf (c .op)) c) below ⌝ }
-{
-    let bad = bad_argument(c);
-    let reason = wrong_argument(c);
-    invalid(reason, bad, below)
-}
-
 fn bad_address(c: Call) -> bool
     ensures { λ r. ⌜ r ≡ badAddress (commandOf (c .op)) c ⌝ }
 {
@@ -137,20 +136,51 @@ fn late(c: Call, now: u64) -> bool
     u.deadline & given & (due <= now)
 }
 
-// The verdict on a call whose memory and tables are sound, from the last row of the table up to its third.
+// The verdict by the rows behind those for -22.
+fn verdict_behind(c: Call, now: u64, word: u32) -> Verdict
+    ensures { λ r. ⌜ r ≡ first (
+        EFAULT when badAddress (commandOf (c .op)) c
+        ∷ ENOSYS when (isWakeOp (commandOf (c .op)) && undefinedOp (c .val3))
+        ∷ EAGAIN when differs (commandOf (c .op)) c word
+        ∷ ETIMEDOUT when late (commandOf (c .op)) c now
+        ∷ []
+        ) ⌝ }
+{
+    if bad_address(c) {
+        return refused(Errno::EFAULT);
+    }
+    let u = uses_by(c.op);
+    let undefined = undefined_op(c.val3);
+    if u.second & !u.moves & undefined {
+        return refused(Errno::ENOSYS);
+    }
+    if differs(c, word) {
+        return refused(Errno::EAGAIN);
+    }
+    if late(c, now) {
+        return refused(Errno::ETIMEDOUT);
+    }
+    Verdict::Pass
+}
+
+// The verdict on a call whose memory and tables are sound, by the table's rows from the third on: the first that applies answers, and no
+// later one is tested.
 pub fn verdict_on(c: Call, waits: bool, now: u64, word: u32) -> Verdict
     ensures { λ r. ⌜ r ≡ first (callRows c waits now word) ⌝ }
 {
-    let u = uses_by(c.op);
-    let undefined = undefined_op(c.val3);
-    let v = row(Errno::ETIMEDOUT, late(c, now), Verdict::Pass);
-    let v = row(Errno::EAGAIN, differs(c, word), v);
-    let v = row(Errno::ENOSYS, u.second & !u.moves & undefined, v);
-    let v = row(Errno::EFAULT, bad_address(c), v);
-    let v = arguments(c, v);
-    let v = row(Errno::ENOSYS, not_implemented(c.op), v);
-    let v = row(Errno::EBUSY, waits, v);
-    row(Errno::ESRCH, no_thread(c.process, c.index), v)
+    if no_thread(c.process, c.index) {
+        return refused(Errno::ESRCH);
+    }
+    if waits {
+        return refused(Errno::EBUSY);
+    }
+    if not_implemented(c.op) {
+        return refused(Errno::ENOSYS);
+    }
+    if bad_argument(c) {
+        return refused_for(wrong_argument(c));
+    }
+    verdict_behind(c, now, word)
 }
 
 // The verdict on a priority that is to be set, memory and tables being sound.

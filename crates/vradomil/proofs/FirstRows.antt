@@ -1,5 +1,5 @@
 -- What a host lends: words of the right length and tables that keep the rules pass the first two rows.
-use mathlib.Core.Path.{_≡_, ap}
+use mathlib.Core.Path.{_≡_, sym, ap, _∙_}
 use mathlib.Core.Bool.{true, false, not}
 use mathlib.Core.List.{List}
 use Prim.Native.Nat.{ℕ, _*_, _<_}
@@ -8,14 +8,17 @@ use lib.Dec.{eqb}
 use native.Mathlib.Omega.{arith}
 use borrow.Author.Tests.{eq-eqb, ne-eqb}
 use Rattle.rules.proofs.Rows.{not-pass}
+use Rattle.rules.specs.declared.answer.Refusal.{Refusal}
 use Rattle.rules.specs.declared.answer.Verdict.the-variants.{Refuse, Pass}
 use Rattle.rules.specs.declared.answer.Errno.the-variants.{ENXIO, EBADF}
-use Rattle.rules.specs.Answers.{plain}
-use Rattle.rules.specs.Calls.{wrongMemory}
+use Rattle.rules.specs.Answers.{plain, first}
+use Rattle.rules.specs.Calls.{wrongMemory, firstRows}
 use Rattle.tables.specs.Sizes.{wordBytes, memoryWords}
-use Rattle.tables.specs.Tables.{tablesOk}
+use Rattle.tables.specs.Tables.{tablesOk, expiredSleepers}
 use Rattle.layout.specs.Layout.{tablesAt, wordsOf, wordsAt, memorySize}
-use Rattle.layout.specs.Check.{Held}
+use Rattle.layout.specs.declared.check.Seen.{Seen}
+use Rattle.layout.specs.Check.{Checked}
+use Rattle.vradomil.specs.declared.buffers.Lent.{Lent}
 use Rattle.vradomil.specs.Host.{seen, BuffersJudged}
 use Rattle.vradomil.proofs.Memory.{words-length}
 
@@ -30,11 +33,37 @@ right-words : (b m : List ℕ) → length m ≡ memorySize → wrongMemory (seen
 right-words b m h = ap not (eq-eqb (length (wordsAt m)) memoryWords (words-length memoryWords m h))
 
 module _ (b m : List ℕ) where
-  pub refused-memory : (length m ≡ memorySize → ⊥) → BuffersJudged b m (Refuse (plain ENXIO))
-  refused-memory h = record { verdict = rw (wrong-words b m h); held = not-pass; long = not-pass }
+  pub memory-row : (length m ≡ memorySize → ⊥) → Refuse (plain ENXIO) ≡ first (firstRows (seen b m))
+  memory-row h = rw (wrong-words b m h)
 
-  pub refused-tables : length m ≡ memorySize → tablesOk (tablesAt b) ≡ false → BuffersJudged b m (Refuse (plain EBADF))
-  refused-tables size bad = record { verdict = rw (right-words b m size, bad); held = not-pass; long = not-pass }
+  pub tables-row : length m ≡ memorySize → tablesOk (tablesAt b) ≡ false → Refuse (plain EBADF) ≡ first (firstRows (seen b m))
+  tables-row size bad = rw (right-words b m size, bad)
 
-  pub let-through : length m ≡ memorySize → tablesOk (tablesAt b) ≡ true → Held b → BuffersJudged b m Pass
-  let-through size good held = record { verdict = rw (right-words b m size, good); held = λ e. held; long = λ e. size }
+module _ (b m : List ℕ) (l : Lent) where
+  refused-lent : (x : Refusal) → l .verdict ≡ Refuse x → Refuse x ≡ first (firstRows (seen b m)) → BuffersJudged b m l
+  refused-lent x is same =
+      record {
+        verdict = is ∙ same;
+        held = λ e. not-pass (sym is ∙ e);
+        long = λ e. not-pass (sym is ∙ e);
+        places = λ e. not-pass (sym is ∙ e);
+        calm = λ e. not-pass (sym is ∙ e);
+      }
+
+  pub refused-memory : (length m ≡ memorySize → ⊥) → l .verdict ≡ Refuse (plain ENXIO) → BuffersJudged b m l
+  refused-memory h is = refused-lent (plain ENXIO) is (memory-row b m h)
+
+  pub refused-tables : length m ≡ memorySize → tablesOk (tablesAt b) ≡ false → l .verdict ≡ Refuse (plain EBADF) → BuffersJudged b m l
+  refused-tables size bad is = refused-lent (plain EBADF) is (tables-row b m size bad)
+
+pub let-through : (b m : List ℕ) → length m ≡ memorySize → (x : Seen) → x .ok ≡ true → Checked b x
+    → BuffersJudged b m (record { verdict = Pass; place = x .place; calm = x .calm })
+unfolding expiredSleepers
+let-through b m size x good is =
+    record {
+      verdict = rw (right-words b m size, sym (is .answer) ∙ good);
+      held = λ e. is .held good;
+      long = λ e. size;
+      places = λ e. is .places good;
+      calm = λ e. is .calm good;
+    }

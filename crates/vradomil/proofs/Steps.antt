@@ -8,12 +8,10 @@ use mir.Syntax.{w32}
 use mir.Val.{SFits, toZ, ofZ}
 use mir.Facts.{toZ-ofZ}
 use Rattle.tables.specs.declared.State.{State}
-use Rattle.tables.specs.declared.Taken.{Taken}
 use Rattle.rules.specs.declared.event.Call.{Call}
 use Rattle.rules.specs.declared.event.Event.{Event}
 use Rattle.rules.specs.declared.event.Event.the-variants.{Call as CallEvent}
 use Rattle.rules.specs.declared.answer.Refusal.{Refusal}
-use Rattle.rules.specs.declared.answer.Verdict.{Verdict}
 use Rattle.rules.specs.declared.answer.Verdict.the-variants.{Refuse, Pass}
 use Rattle.rules.specs.declared.answer.Answer.{Answer}
 use Rattle.rules.specs.declared.answer.Answer.the-variants.{Count, Refused}
@@ -26,24 +24,19 @@ use Rattle.rules.proofs.Refused.{granted}
 use Rattle.tables.specs.Tables.{world}
 use Rattle.layout.specs.Layout.{tablesBytes, stateAt, wordsAt, wordsBytes}
 use Rattle.layout.specs.Check.{Held}
-use Rattle.changes.specs.Change.{Stands, Standing, TakenBytes}
+use Rattle.changes.specs.Change.{Stands}
+use Rattle.vradomil.specs.declared.buffers.Lent.{Lent}
 use Rattle.vradomil.specs.Host.{seen, tablesLeft, wordsLeft, hostNumber, CallFits, EventFits, ChangesTables, ChangesWords, Calls, BuffersJudged, Done, Leaves}
 
 -- the tables that sound bytes stand for
 pub stands : (b : List ℕ) → Held b → Stands (stateAt b) b
 stands b h = record { bytes = h .bytes; sound = h .sound }
 
-pub standing : (b : List ℕ) → Held b → Standing b
-standing b h = record { state = stateAt b; stands = stands b h }
-
 -- a number that fits 32 bits is read back as it was stored
 pub read-back : {z y : ℤ} → (z ≡ y) × SFits w32 z → toZ w32 (ofZ w32 z) ≡ y
 read-back h = toZ-ofZ (h .1) ∙ h .0
 
--- a count of sleepers that were taken, as a number and bytes
-pub took-done : (t : Taken) (n : ℕ) (after : List ℕ) → TakenBytes t n after → n ≤ asleepNumber → Done (Count (t .n)) (t .state) n after
-took-done t n after h few = record { number = ap pos (h .number); small = few; bytes = h .bytes }
-
+-- what is left, by equal answers and tables
 pub done-by : (a d : Answer) (s u : State) (n : ℕ) (after : List ℕ) → a ≡ d → s ≡ u → Done a s n after → Done d u n after
 done-by a d s u n after is same h = subst₂ (λ (x : Answer) (y : State). Done x y n after) is same h
 
@@ -52,19 +45,15 @@ leaves-by o p n after is h = subst (λ (x : Outcome). Leaves x n after) is h
 
 -- The first two rows, before those of the event.
 
-module _ (b m : List ℕ) (v : Verdict) (l : BuffersJudged b m v) (rest : List Row) where
-  buffers-refused : (z : Refusal) → v ≡ Refuse z → first (firstRows (seen b m) ++ rest) ≡ Refuse z
-  buffers-refused z h = refused-before (firstRows (seen b m)) rest z (sym (l .verdict) ∙ h)
+pub row-refused : (e : Event) (b m : List ℕ) → isQuery e ≡ false → (z : Refusal) → Refuse z ≡ first (firstRows (seen b m)) → first (refusals e (seen b m)) ≡ Refuse z
+row-refused e b m some z h = ap first (all-rows e (seen b m) some) ∙ refused-before (firstRows (seen b m)) (ownRows e (seen b m)) z (sym h)
 
-  pub buffers-passed : v ≡ Pass → first (firstRows (seen b m) ++ rest) ≡ first rest
-  buffers-passed h = passed-before (firstRows (seen b m)) rest (sym (l .verdict) ∙ h)
+module _ (e : Event) (b m : List ℕ) (x : Lent) (l : BuffersJudged b m x) (some : isQuery e ≡ false) where
+  pub event-refused : (z : Refusal) → x .verdict ≡ Refuse z → first (refusals e (seen b m)) ≡ Refuse z
+  event-refused z h = row-refused e b m some z (sym h ∙ l .verdict)
 
-module _ (e : Event) (b m : List ℕ) (v : Verdict) (l : BuffersJudged b m v) (some : isQuery e ≡ false) where
-  pub event-refused : (x : Refusal) → v ≡ Refuse x → first (refusals e (seen b m)) ≡ Refuse x
-  event-refused x h = ap first (all-rows e (seen b m) some) ∙ buffers-refused b m v l (ownRows e (seen b m)) x h
-
-  pub event-passed : v ≡ Pass → first (refusals e (seen b m)) ≡ first (ownRows e (seen b m))
-  event-passed h = ap first (all-rows e (seen b m) some) ∙ buffers-passed b m v l (ownRows e (seen b m)) h
+  pub event-passed : x .verdict ≡ Pass → first (refusals e (seen b m)) ≡ first (ownRows e (seen b m))
+  event-passed h = ap first (all-rows e (seen b m) some) ∙ passed-before (firstRows (seen b m)) (ownRows e (seen b m)) (sym (l .verdict) ∙ h)
 
 -- bytes that a change leaves
 tables-changed : (o : Outcome) (b : List ℕ) → isRefused (o .answer) ≡ false → tablesLeft o b ≡ tablesBytes (o .world .state)

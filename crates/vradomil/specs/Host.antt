@@ -17,13 +17,17 @@ use Rattle.rules.specs.declared.answer.Verdict.the-variants.{Pass}
 use Rattle.rules.specs.declared.answer.Errno.the-variants.{EBADF}
 use Rattle.rules.specs.declared.answer.Panel.{Panel}
 use Rattle.tables.specs.Sizes.{wordLimit, timeLimit}
-use Rattle.tables.specs.Tables.{World, world, fresh}
+use Rattle.tables.specs.Tables.{World, world, fresh, arrivals, expiredSleepers}
+use Rattle.tables.specs.Steps.{Places}
 use Rattle.rules.specs.Answers.{plain, first, Outcome, isRefused, errnoNumber, reasonNumber, reasonOf, asleepNumber}
 use Rattle.rules.specs.Calls.{firstRows}
-use Rattle.rules.specs.Events.{step, refusals, panel}
-use Rattle.effects.specs.Ready.{Ready}
+use Rattle.rules.specs.Events.{step, panel}
 use Rattle.layout.specs.Layout.{tablesAt, tablesBytes, tablesSize, stateAt, wordsAt, wordsBytes, memorySize}
 use Rattle.layout.specs.Check.{Held}
+use Rattle.plans.specs.declared.Plan.{Plan}
+use Rattle.plans.specs.Ready.{Granted}
+use Rattle.plans.specs.Plans.{written}
+use Rattle.vradomil.specs.declared.buffers.Lent.{Lent}
 
 -- the tables and the words that the bytes stand for
 abbrev pub seen : List ℕ → List ℕ → World
@@ -125,21 +129,23 @@ pub record Initialised (b : List ℕ) (r : ℤ) (after : List ℕ) : Type 0 wher
 -- What the functions inside tell each other.
 
 -- the first two rows of every event but the panel query, and what it means to pass them
-pub record BuffersJudged (tables words : List ℕ) (v : Verdict) : Type 0 where
-  pub verdict : v ≡ first (firstRows (seen tables words))
-  pub held : v ≡ Pass → Held tables
-  pub long : v ≡ Pass → length words ≡ memorySize
-
--- the whole table of answers, for a call
-pub record Judged (c : Call) (tables words : List ℕ) (v : Verdict) : Type 0 where
-  pub verdict : v ≡ first (refusals (CallEvent c) (seen tables words))
-  pub held : v ≡ Pass → Held tables
-  pub long : v ≡ Pass → length words ≡ memorySize
+pub record BuffersJudged (tables words : List ℕ) (l : Lent) : Type 0 where
+  pub verdict : l .verdict ≡ first (firstRows (seen tables words))
+  pub held : l .verdict ≡ Pass → Held tables
+  pub long : l .verdict ≡ Pass → length words ≡ memorySize
+  pub places : l .verdict ≡ Pass → Places (l .place) (arrivals (stateAt tables))
+  pub calm : l .verdict ≡ Pass → (time : ℕ) → time ≤ l .calm → expiredSleepers time (stateAt tables) ≡ []
 
 -- a call on tables that keep the rules, which no row refuses
-pub record Passed (c : Call) (tables : List ℕ) : Type 0 where
+pub record Passed (c : Call) (tables words place : List ℕ) : Type 0 where
   pub held : Held tables
-  pub ready : Ready c (stateAt tables)
+  pub long : length words ≡ memorySize
+  pub granted : Granted c (stateAt tables) (wordsAt words)
+  pub places : Places place (arrivals (stateAt tables))
+
+-- the word that a plan writes, on the words' bytes
+abbrev pub PutWord : Call → Plan → List ℕ → List ℕ → Type 0
+PutWord c d before after = (s : State) → after ≡ wordsBytes (written c d (world s (wordsAt before)) .words)
 
 -- an answer and the tables that go with it, as a number and bytes
 pub record Done (a : Answer) (s : State) (n : ℕ) (after : List ℕ) : Type 0 where

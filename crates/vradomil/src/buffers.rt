@@ -4,36 +4,59 @@ ghost use Prim.Native.Nat.{_<_};
 ghost use lib.ListN.{length, getD};
 ghost use Rattle.tables.specs.Sizes.{memoryWords};
 ghost use Rattle.layout.specs.Layout.{wordsAt, memorySize};
+ghost use Rattle.rules.specs.declared.answer.Verdict.the-variants.{Refuse};
+ghost use Rattle.rules.specs.Answers.{plain};
 ghost use Rattle.vradomil.specs.Host.{BuffersJudged};
 use layout::WORD_SIZE;
-use layout::check::sound;
+use layout::check::sound_until;
 use numbers::u32_at;
 use rules::answer::Errno;
 use rules::answer::Reason;
 use rules::answer::Refusal;
 use rules::answer::Verdict;
+use tables::THREADS;
 use tables::WORDS;
 
 const WORDS_SIZE: usize = WORD_SIZE * WORDS;
 
-// The first two rows of the table of answers.
-pub(crate) fn judge_buffers(tables: &[u8], words: &[u8]) -> Verdict
+// The first two rows of the table of answers; and, where neither refuses, where each thread stands in the arrival list, and a time up to
+// which no deadline comes.
+pub(crate) struct Lent {
+    pub(crate) verdict: Verdict,
+    pub(crate) place: [u8; THREADS],
+    pub(crate) calm: u64,
+}
+
+fn refused(errno: Errno) -> Lent
+    ensures { λ r. ⌜ r .verdict ≡ Refuse (plain errno) ⌝ }
+{
+    Lent {
+        verdict: Verdict::Refuse(Refusal {
+            errno: errno,
+            reason: Reason::NoReason,
+        }),
+        place: [0; THREADS],
+        calm: 0,
+    }
+}
+
+// A caller that asks whether a deadline comes up to a time says so.
+pub(crate) fn judge_buffers(tables: &[u8], words: &[u8], time: u64) -> Lent
     ensures { λ r. ⌜ BuffersJudged (now (tables .entry)) (now (words .entry)) r ⌝ }
 {
     if words.len() != WORDS_SIZE {
-        return Verdict::Refuse(Refusal {
-            errno: Errno::ENXIO,
-            reason: Reason::NoReason,
-        });
+        return refused(Errno::ENXIO);
     }
-    let ok = sound(tables);
-    if !ok {
-        return Verdict::Refuse(Refusal {
-            errno: Errno::EBADF,
-            reason: Reason::NoReason,
-        });
+    let seen = sound_until(tables, time);
+    if !seen.ok {
+        return refused(Errno::EBADF);
     }
-    Verdict::Pass
+    let place = seen.place;
+    Lent {
+        verdict: Verdict::Pass,
+        place: place,
+        calm: seen.calm,
+    }
 }
 
 // A word. It is called on words of the right length.

@@ -1,150 +1,118 @@
-// Calls: the seven commands on the tables' bytes, and the entry point that tests first.
+// Calls: the plan of a call and what it leaves of the tables' bytes, and the entry point that tests first.
 ghost use mathlib.Core.Path.{_≡_};
-ghost use mathlib.Core.List.{List, []};
-ghost use Prim.Native.Nat.{ℕ, _<_};
+ghost use mathlib.Core.Bool.{true};
+ghost use mathlib.Core.List.{[]};
+ghost use Prim.Native.Nat.{_<_};
 ghost use lib.ListN.{length};
-ghost use Rattle.tables.specs.Sizes.{bytesPerProcess};
-ghost use Rattle.tables.specs.Tables.{world, wordAt};
-ghost use Rattle.rules.specs.WakeOp.{compares};
+ghost use Rattle.tables.specs.Sizes.{processes, bytesPerProcess};
+ghost use Rattle.tables.specs.Tables.{world};
+ghost use Rattle.rules.specs.declared.event.Event.the-variants.{Call as CallEvent};
+ghost use Rattle.rules.specs.Answers.{first};
 ghost use Rattle.rules.specs.Commands.{commandOf};
-ghost use Rattle.rules.specs.Calls.{wait, wake, requeue, wakeOp, callEffect};
-ghost use Rattle.effects.specs.Ready.{Granted};
+ghost use Rattle.rules.specs.Calls.{callEffect};
+ghost use Rattle.rules.specs.Events.{ownRows};
 ghost use Rattle.layout.specs.Layout.{stateAt, wordsAt, wordsBytes, memorySize};
-ghost use Rattle.vradomil.specs.Host.{Judged, Passed, Leaves, Calls};
+ghost use Rattle.layout.specs.Check.{Held};
+ghost use Rattle.plans.specs.Plans.{carried, Planned};
+ghost use Rattle.vradomil.specs.Host.{Passed, PutWord, Leaves, Calls};
 use crate::answer::refusal;
 use crate::buffers::judge_buffers;
 use crate::buffers::word_at;
-use changes::end_first;
 use changes::fall_asleep;
-use changes::requeue_first;
-use commands::deadline_of;
-use commands::mask_of;
-use commands::second_cap;
+use changes::take;
+use changes::view_at;
 use commands::thread_index;
-use commands::timeout_given;
 use commands::uses_by;
 use commands::word_index;
-use effects::only_if;
 use layout::CLOCK_AT;
 use layout::WORD_SIZE;
-use layout::read::hits;
 use layout::read::thread_at;
 use numbers::put_u32;
 use numbers::u64_at;
-use operations::compares;
-use operations::new_word;
+use plans::Plan;
+use plans::sleep_plan;
+use plans::take_plan;
 use rules::answer::Verdict;
 use rules::event::Call;
 use tables::LastAnswer;
+use tables::THREADS;
 use verdicts::verdict_on;
 
 // To a host, "asleep" is this number.
 const ASLEEP: u32 = 2147483647;
 
-// WAIT, WAIT_BITSET: the caller sleeps. This and the commands below are called by perform, on a call that was not refused.
-fn wait(b: &mut [u8], c: Call) -> u32
-    requires { ⌜ Passed c (now b) ⌝ }
-    ensures { λ r. ⌜ Leaves (wait (commandOf (c .op)) c (world (stateAt (now (b .entry))) [])) r (now (b .exit)) ⌝ }
-{
-    let u = uses_by(c.op);
-    let t = thread_index(c.process, c.index);
-    let bitset = mask_of(c, u.mask);
-    let timed = timeout_given(c);
-    let clock = u64_at(b, CLOCK_AT);
-    let due = deadline_of(c, u.mask, clock);
-    fall_asleep(b, t, c.uaddr, bitset, timed, due);
-    ASLEEP
-}
-
-// WAKE, WAKE_BITSET.
-fn wake(b: &mut [u8], c: Call) -> u32
-    requires { ⌜ Passed c (now b) ⌝ }
-    ensures { λ r. ⌜ Leaves (wake (commandOf (c .op)) c (world (stateAt (now (b .entry))) [])) r (now (b .exit)) ⌝ }
-{
-    let u = uses_by(c.op);
-    let flags = hits(b, c.process as usize, c.uaddr, !u.mask, c.val3);
-    let n = end_first(b, flags, c.val as usize, LastAnswer::Woken);
-    n
-}
-
-// REQUEUE, CMP_REQUEUE: the first are released, the next move.
-fn requeue(b: &mut [u8], c: Call) -> u32
-    requires { ⌜ Passed c (now b) ⌝ }
-    ensures { λ r. ⌜ Leaves (requeue (commandOf (c .op)) c (world (stateAt (now (b .entry))) [])) r (now (b .exit)) ⌝ }
-{
-    let u = uses_by(c.op);
-    let cap2 = second_cap(c);
-    let flags = hits(b, c.process as usize, c.uaddr, !u.mask, c.val3);
-    let n = requeue_first(b, flags, c.val, cap2, c.uaddr2);
-    let more = only_if(u.compare, n.moved);
-    n.released + more
-}
-
-// The releases of a WAKE_OP, by whether its comparison holds. One word is searched once, with both caps; two are searched one after the
-// other, the second only if the comparison holds, for whom it may take on the tables as they came.
-fn release_both(b: &mut [u8], c: Call, holds: bool) -> u32
-    requires { ⌜ Passed c (now b) ⌝ }
-    ensures { λ r. ⌜ ((ws : List ℕ) → compares (c .val3) (wordAt (world (stateAt (now (b .entry))) ws) (c .process) (c .uaddr2)) ≡ holds → Leaves (wakeOp (commandOf (c .op)) c (world (stateAt (now (b .entry))) ws)) r (now (b .exit))) ⌝ }
-{
-    let u = uses_by(c.op);
-    let cap2 = only_if(holds, second_cap(c));
-    let first = hits(b, c.process as usize, c.uaddr, !u.mask, c.val3);
-    if (c.uaddr == c.uaddr2) | !holds {
-        return end_first(b, first, c.val as usize + cap2 as usize, LastAnswer::Woken);
-    }
-    let second = hits(b, c.process as usize, c.uaddr2, !u.mask, c.val3);
-    let n = end_first(b, first, c.val as usize, LastAnswer::Woken);
-    let m = end_first(b, second, cap2 as usize, LastAnswer::Woken);
-    n + m
-}
-
-// WAKE_OP: the second word is written, then sleepers of both words are released.
-fn wake_op(b: &mut [u8], words: &mut [u8], c: Call) -> u32
-    requires { ⌜ (Passed c (now b)) × ((c .uaddr2 < bytesPerProcess) × (length (now words) ≡ memorySize)) ⌝ }
-    ensures { λ r. ⌜ (Leaves (wakeOp (commandOf (c .op)) c (world (stateAt (now (b .entry))) (wordsAt (now (words .entry))))) r (now (b .exit))) × (now (words .exit) ≡ wordsBytes (wakeOp (commandOf (c .op)) c (world (stateAt (now (b .entry))) (wordsAt (now (words .entry)))) .world .words)) ⌝ }
-{
-    let i = word_index(c.process, c.uaddr2);
-    let old = word_at(words, i);
-    let new = new_word(c.val3, old);
-    put_u32(words, WORD_SIZE * i, new);
-    let holds = compares(c.val3, old);
-    release_both(b, c, holds)
-}
-
-// What a call does that no row refuses. It is called by vradomil_call.
-fn perform(b: &mut [u8], words: &mut [u8], c: Call) -> u32
-    requires { ⌜ (Passed c (now b)) × ((Granted c (stateAt (now b)) (wordsAt (now words))) × (length (now words) ≡ memorySize)) ⌝ }
-    ensures { λ r. ⌜ (Leaves (callEffect (commandOf (c .op)) c (world (stateAt (now (b .entry))) (wordsAt (now (words .entry))))) r (now (b .exit))) × (now (words .exit) ≡ wordsBytes (callEffect (commandOf (c .op)) c (world (stateAt (now (b .entry))) (wordsAt (now (words .entry)))) .world .words)) ⌝ }
+// The plan of a call. This and the functions below are called by perform, on a call that was not refused.
+fn plan_at(b: &[u8], words: &[u8], c: Call, place: [u8; THREADS]) -> Plan
+    requires { ⌜ Passed c (now b) (now words) place ⌝ }
+    ensures { λ r. ⌜ Planned c (world (stateAt (now (b .entry))) (wordsAt (now (words .entry)))) r ⌝ }
 {
     let u = uses_by(c.op);
     if u.deadline {
-        return wait(b, c);
+        let clock = u64_at(b, CLOCK_AT);
+        return sleep_plan(c, clock);
     }
-    if u.moves {
-        return requeue(b, c);
-    }
-    if u.second {
-        return wake_op(b, words, c);
-    }
-    wake(b, c)
+    let v = view_at(b, c.process as usize, place);
+    let i = word_index(c.process, c.uaddr2);
+    let old = word_at(words, i);
+    take_plan(v, c, old)
 }
 
-// The table of answers.
-fn judge(tables: &[u8], words: &[u8], c: Call) -> Verdict
-    ensures { λ r. ⌜ Judged c (now (tables .entry)) (now (words .entry)) r ⌝ }
+// The word that a plan writes.
+fn put_word(words: &mut [u8], c: Call, d: Plan)
+    requires { ⌜ (c .process < processes) × ((length (now words) ≡ memorySize) × (d .writes ≡ true → c .uaddr2 < bytesPerProcess)) ⌝ }
+    ensures { λ _. ⌜ PutWord c d (now (words .entry)) (now (words .exit)) ⌝ }
 {
-    let v = judge_buffers(tables, words);
-    match v {
-        Verdict::Refuse(x) => Verdict::Refuse(x),
-        Verdict::Pass => {
-            let t = thread_index(c.process, c.index);
-            let thread = thread_at(tables, t);
-            let i = word_index(c.process, c.uaddr);
-            let word = word_at(words, i);
-            let clock = u64_at(tables, CLOCK_AT);
-            verdict_on(c, thread.waiting, clock, word)
-        }
+    if !d.writes {
+        return;
     }
+    let i = word_index(c.process, c.uaddr2);
+    put_u32(words, WORD_SIZE * i, d.word);
+}
+
+// A plan carried out, and the number that the call is answered.
+fn carry_out(b: &mut [u8], words: &mut [u8], c: Call, place: [u8; THREADS], d: Plan) -> u32
+    requires { ⌜ (Passed c (now b) (now words) place) × (Planned c (world (stateAt (now b)) (wordsAt (now words))) d) ⌝ }
+    ensures { λ r. ⌜ (Leaves (carried c d (world (stateAt (now (b .entry))) (wordsAt (now (words .entry))))) r (now (b .exit))) × (now (words .exit) ≡ wordsBytes (carried c d (world (stateAt (now (b .entry))) (wordsAt (now (words .entry)))) .world .words)) ⌝ }
+{
+    if d.sleeps {
+        let t = thread_index(c.process, c.index);
+        fall_asleep(b, t, c.uaddr, d.bitset, d.timed, d.deadline);
+        return ASLEEP;
+    }
+    put_word(words, c, d);
+    let taken = d.taken;
+    take(
+        b,
+        place,
+        taken,
+        d.released,
+        LastAnswer::Woken,
+        d.moved,
+        c.uaddr2,
+    );
+    d.count
+}
+
+// What a call does that no row refuses. It is called by vradomil_call.
+fn perform(b: &mut [u8], words: &mut [u8], c: Call, place: [u8; THREADS]) -> u32
+    requires { ⌜ Passed c (now b) (now words) place ⌝ }
+    ensures { λ r. ⌜ (Leaves (callEffect (commandOf (c .op)) c (world (stateAt (now (b .entry))) (wordsAt (now (words .entry))))) r (now (b .exit))) × (now (words .exit) ≡ wordsBytes (callEffect (commandOf (c .op)) c (world (stateAt (now (b .entry))) (wordsAt (now (words .entry)))) .world .words)) ⌝ }
+{
+    let d = plan_at(b, words, c, place);
+    carry_out(b, words, c, place, d)
+}
+
+// The table of answers from its third row on, on buffers that pass the first two.
+fn judge(tables: &[u8], words: &[u8], c: Call) -> Verdict
+    requires { ⌜ (Held (now tables)) × (length (now words) ≡ memorySize) ⌝ }
+    ensures { λ r. ⌜ r ≡ first (ownRows (CallEvent c) (world (stateAt (now (tables .entry))) (wordsAt (now (words .entry))))) ⌝ }
+{
+    let t = thread_index(c.process, c.index);
+    let thread = thread_at(tables, t);
+    let i = word_index(c.process, c.uaddr);
+    let word = word_at(words, i);
+    let clock = u64_at(tables, CLOCK_AT);
+    verdict_on(c, thread.waiting, clock, word)
 }
 
 // A futex call.
@@ -175,15 +143,26 @@ pub extern "C" fn vradomil_call(
         uaddr2: uaddr2,
         val3: val3,
     };
-    let v = judge(tables, words, c);
+    let lent = judge_buffers(tables, words, 0);
+    let v = lent.verdict;
     match v {
         Verdict::Refuse(x) => {
             let e = x.errno;
             refusal(e)
         }
         Verdict::Pass => {
-            let n = perform(tables, words, c);
-            n as i32
+            let v = judge(tables, words, c);
+            match v {
+                Verdict::Refuse(x) => {
+                    let e = x.errno;
+                    refusal(e)
+                }
+                Verdict::Pass => {
+                    let place = lent.place;
+                    let n = perform(tables, words, c, place);
+                    n as i32
+                }
+            }
         }
     }
 }

@@ -12,9 +12,9 @@ ghost use Rattle.layout.specs.Layout.{stateAt, tablesSize, listAt, waitingAt};
 ghost use Rattle.vradomil.specs.Host.{ChangesWords, ChangesTables, Shows, Initialised};
 use crate::answer::refusal;
 use crate::buffers::judge_buffers;
-use changes::end_first;
-use changes::end_found;
+use changes::end_split;
 use changes::set_priority;
+use changes::take;
 use commands::thread_index;
 use commands::word_index;
 use effects::only_if;
@@ -53,7 +53,8 @@ pub extern "C" fn vradomil_store(
 ) -> i32
     ensures { λ r. ⌜ ChangesWords (Store process address value) (now (tables .entry)) (now (words .entry)) [] r (now (words .exit)) [] ⌝ }
 {
-    let v = judge_buffers(tables, words);
+    let lent = judge_buffers(tables, words, 0);
+    let v = lent.verdict;
     match v {
         Verdict::Refuse(x) => {
             let e = x.errno;
@@ -83,7 +84,8 @@ pub extern "C" fn vradomil_store(
 pub extern "C" fn vradomil_clock(tables: &mut [u8], words: &[u8], time: u64) -> i32
     ensures { λ r. ⌜ ChangesTables (Clock time) (now (tables .entry)) (now (words .entry)) [] r (now (tables .exit)) [] ⌝ }
 {
-    let v = judge_buffers(tables, words);
+    let lent = judge_buffers(tables, words, time);
+    let v = lent.verdict;
     match v {
         Verdict::Refuse(x) => {
             let e = x.errno;
@@ -94,8 +96,12 @@ pub extern "C" fn vradomil_clock(tables: &mut [u8], words: &[u8], time: u64) -> 
             if time < clock {
                 return refusal(Errno::EINVAL);
             }
-            let found = due(tables, time);
-            let n = end_found(tables, found, LastAnswer::TimedOut);
+            if time <= lent.calm {
+                put_u64(tables, CLOCK_AT, time);
+                return 0;
+            }
+            let parts = due(tables, time);
+            let n = end_split(tables, parts, LastAnswer::TimedOut);
             put_u64(tables, CLOCK_AT, time);
             n as i32
         }
@@ -107,7 +113,8 @@ pub extern "C" fn vradomil_clock(tables: &mut [u8], words: &[u8], time: u64) -> 
 pub extern "C" fn vradomil_interrupt(tables: &mut [u8], words: &[u8], process: u8, index: u8) -> i32
     ensures { λ r. ⌜ ChangesTables (Interrupt process index) (now (tables .entry)) (now (words .entry)) [] r (now (tables .exit)) [] ⌝ }
 {
-    let v = judge_buffers(tables, words);
+    let lent = judge_buffers(tables, words, 0);
+    let v = lent.verdict;
     match v {
         Verdict::Refuse(x) => {
             let e = x.errno;
@@ -118,10 +125,14 @@ pub extern "C" fn vradomil_interrupt(tables: &mut [u8], words: &[u8], process: u
                 return refusal(Errno::ESRCH);
             }
             let t = thread_index(process, index);
-            let mut flags = [false; THREADS];
-            flags[t] = true;
-            let n = end_first(tables, flags, 1, LastAnswer::Interrupted);
-            n as i32
+            let place = lent.place;
+            if place[t] == 0 {
+                return 0;
+            }
+            let mut one = [State::NO_ENTRY; THREADS];
+            one[0] = t as u8;
+            take(tables, place, one, 1, LastAnswer::Interrupted, 0, 0);
+            1
         }
     }
 }
@@ -137,7 +148,8 @@ pub extern "C" fn vradomil_set_priority(
 ) -> i32
     ensures { λ r. ⌜ ChangesTables (SetPriority process index priority) (now (tables .entry)) (now (words .entry)) [] r (now (tables .exit)) [] ⌝ }
 {
-    let v = judge_buffers(tables, words);
+    let lent = judge_buffers(tables, words, 0);
+    let v = lent.verdict;
     match v {
         Verdict::Refuse(x) => {
             let e = x.errno;
@@ -190,8 +202,8 @@ pub extern "C" fn vradomil_query(tables: &[u8], process: u8) -> u32
     ensures { λ r. ⌜ Shows process (now (tables .entry)) r ⌝ }
 {
     let exists = (process as usize) < PROCESSES;
-    let ok = sound(tables);
-    let bits = if ok & exists {
+    let seen = sound(tables);
+    let bits = if seen.ok & exists {
         waiting_set(tables, process as usize)
     } else {
         0

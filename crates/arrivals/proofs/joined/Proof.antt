@@ -1,20 +1,19 @@
 -- The loop has joined the first i entries.
 use mathlib.Core.Path.{_≡_, sym, ap, _∙_}
-use mathlib.Core.List.{List, [], _∷_, _++_, append-nil, append-assoc}
+use mathlib.Core.List.{List, append-assoc}
 use Prim.Native.Nat.{ℕ, _+_, _-_, _≤_, _<_}
+use native.Mathlib.Numerals.{add-one}
 use native.Mathlib.Omega.{arith}
 use borrow.Author.Needs.{needs}
-use lib.ListN.{length, take, drop, getD, set, length-append, length-drop}
-use lib.Seq.{length-take-le, getD-drop}
-use Rattle.lists.specs.Lists.{padTo}
-use Rattle.lists.proofs.Loops.{take-next, padTo-snoc}
-use Rattle.arrivals.specs.Sizes.{threads, noEntry}
+use lib.ListN.{length, take, drop, getD, set, length-drop}
+use lib.Seq.{getD-drop, paste, paste-zero, paste-suc}
+use Rattle.arrivals.specs.Sizes.{threads}
 use Rattle.arrivals.proofs.joined.Statement.{statement}
 use Rattle.arrivals.proofs.joined.Tie as tie
 
 record Going (list : List ℕ) (count : ℕ) (others : List ℕ) (from n : ℕ) (all : List ℕ) (i : ℕ) : Type 0 where
   within : i ≤ n
-  done : all ≡ padTo threads noEntry (take count list ++ take i (drop from others))
+  done : all ≡ paste list count (drop from others) i
 
 abbrev Inv-loop : tie.InvT-loop
 Inv-loop count from n others all₀ i₀ all i = Going all₀ count others from n all i
@@ -24,7 +23,7 @@ abbrev μ-loop : tie.MeasureT-loop
 
 loop-holds : tie.Need-loop-holds Inv-loop μ-loop
 loop-holds c =
-    record { within = omega arith; done = c .pre .0 ∙ ap (padTo threads noEntry) (sym (append-nil (take (c .args .count) (c .args .list)))) }
+    record { within = omega arith; done = paste-zero (c .args .list) (c .args .count) (drop (c .args .from) (c .args .t3)) }
 
 add-all-2 : tie.Need-add-all-2 Inv-loop μ-loop
 add-all-2 c = omega arith
@@ -45,22 +44,13 @@ loop-less : tie.Need-loop-less Inv-loop μ-loop
 loop-less c = omega arith
 
 -- one turn
-turn : (list others all : List ℕ) (count from i : ℕ) → length list ≡ threads → length others ≡ threads → count + i < threads → from + i < threads
-    → all ≡ padTo threads noEntry (take count list ++ take i (drop from others))
-    → set all (count + i) (getD others (from + i) 0) ≡ padTo threads noEntry (take count list ++ take (i + 1) (drop from others))
-turn list others all count from i ll lo room there done =
+turn : (list others all : List ℕ) (count from i : ℕ) → count + i < length list → from + i < length others → all ≡ paste list count (drop from others) i
+    → set all (count + i) (getD others (from + i) 0) ≡ paste list count (drop from others) (i + 1)
+turn list others all count from i room there done =
     let rest = drop from others in
-    let more : i < length rest = omega (arith, length-drop from others) in
-    let x : getD rest i 0 ≡ getD others (from + i) 0 = getD-drop from others i 0 in
-    let front = take count list ++ take i rest in
-    let size : length front ≡ count + i =
-    length-append (take count list) (take i rest)
-    ∙ omega (arith, length-take-le count list (omega arith), length-take-le i rest (omega arith)) in
-    let next : front ++ (getD others (from + i) 0 ∷ []) ≡ take count list ++ take (i + 1) rest =
-    append-assoc (take count list) (take i rest) (getD others (from + i) 0 ∷ [])
-    ∙ ap (λ y. take count list ++ (take i rest ++ (y ∷ []))) (sym x)
-    ∙ ap (take count list ++_) (sym (take-next rest i 0 more)) in
-    cc (padTo-snoc threads noEntry front (getD others (from + i) 0) (omega arith))
+    (λ j. set (done j) (count + i) (sym (getD-drop from others i 0) j))
+    ∙ paste-suc list count rest i 0 room (omega (arith, length-drop from others))
+    ∙ ap (paste list count rest) (sym (add-one i))
 
 long : (c : tie.Start Inv-loop μ-loop) → length (c .args .list) ≡ threads
 long c = search needs
@@ -73,13 +63,17 @@ loop-again c =
     let g = c .before .before in
     record {
       within = omega arith;
-      done = turn (g .args .list) (g .args .t3) (c .before .loop .all) (g .args .count) (g .args .from) (c .before .loop .i) (long g) (size g) (omega arith) (omega arith) (c .before .loop .inv .done);
+      done = turn (g .args .list) (g .args .t3) (c .before .loop .all) (g .args .count) (g .args .from) (c .before .loop .i)
+          (omega (arith, long g)) (omega (arith, size g)) (c .before .loop .inv .done);
     }
 
 returns : tie.Need-returns Inv-loop μ-loop
 returns c =
-    let e : c .before .loop .i ≡ c .before .before .args .n = omega arith in
-    c .before .loop .inv .done ∙ rw e
+    let g = c .before .before in
+    let e : c .before .loop .i ≡ g .args .n = omega arith in
+    let rest = drop (g .args .from) (g .args .t3) in
+    c .before .loop .inv .done ∙ ap (paste (g .args .list) (g .args .count) rest) e
+    ∙ append-assoc (take (g .args .count) (g .args .list)) (take (g .args .n) rest) (drop (g .args .count + g .args .n) (g .args .list))
 
 pub joined-spec : {M : Type 1} → statement M
 joined-spec =

@@ -51,8 +51,8 @@ thread-index-requires c κs = search needs
 array-write-flags : tie.Need-array-write-flags
 array-write-flags c = search needs
 
-end-first-requires : tie.Need-end-first-requires
-end-first-requires c κs =
+end-flagged-requires : tie.Need-end-flagged-requires
+end-flagged-requires c κs =
     let m = c .before .before .before in
     sound-tables (start m .args .s) (sound m (c .before .enum-told .given .1))
 
@@ -76,7 +76,7 @@ returns-2 c =
     let at = thread-there _ _ (e .before .thread-index .ensures) (thread-process (g .args .process) (g .args .index) h) (thread-index (g .args .process) (g .args .index) h) in
     follows-passed (event g) (g .args .s) (g .args .words .now) (m .of-interrupt .result) (m .of-interrupt .ensures) (c .counted .result) _ pass
     (c .counted .ensures
-    ∙ interrupt-ends (e .before .thread-index .result) (g .args .s) (g .args .words .now) (sound m pass) (thread-below _ _ (e .before .thread-index .ensures)) (e .end-first .result) (e .end-first .ensures)
+    ∙ interrupt-ends (e .before .thread-index .result) (g .args .s) (g .args .words .now) (sound m pass) (thread-below _ _ (e .before .thread-index .ensures)) (e .end-flagged .result) (e .end-flagged .ensures)
     ∙ ap (λ t. answered (interruptEffect t (lent g))) at)
     (sym (interrupt-words (threadNumber (g .args .process) (g .args .index)) (lent g)))
 
@@ -90,7 +90,7 @@ interrupt-spec =
     enum-told
     thread-index-requires
     array-write-flags
-    end-first-requires
+    end-flagged-requires
     counted-requires
     returns
     returns-2)

@@ -45,8 +45,8 @@ enum-told c = search needs
 expired-requires : tie.Need-expired-requires
 expired-requires c κs = search needs
 
-end-first-requires : tie.Need-end-first-requires
-end-first-requires c κs =
+end-flagged-requires : tie.Need-end-flagged-requires
+end-flagged-requires c κs =
     let m = c .before .before .before in
     sound-tables (start m .args .s) (sound m (c .before .enum-told .given .1))
 
@@ -67,8 +67,8 @@ returns-2 c =
     let g = start m in
     let pass = e .before .before .enum-told .given .1 in
     follows-passed (event g) (g .args .s) (g .args .words .now) (m .of-clock .result) (m .of-clock .ensures) (c .counted .result) _ pass
-    (c .counted .ensures ∙ clock-ends (g .args .time) (g .args .s) (g .args .words .now) (sound m pass) (flagged (e .before .expired .result))
-    (due-flagged (g .args .time) (g .args .s) (sound m pass) (e .before .expired .result) (e .before .expired .ensures)) (e .end-first .result) (e .end-first .ensures))
+    (c .counted .ensures ∙ clock-ends (g .args .time) (g .args .s) (g .args .words .now) (flagged (e .before .expired .result))
+    (due-flagged (g .args .time) (g .args .s) (sound m pass) (e .before .expired .result) (e .before .expired .ensures)) (e .end-flagged .result) (e .end-flagged .ensures))
     (unfold clockEffect in refl)
 
 pub set-clock-spec : {M : Type 1} → statement M
@@ -80,7 +80,7 @@ set-clock-spec =
     refused-requires
     enum-told
     expired-requires
-    end-first-requires
+    end-flagged-requires
     counted-requires
     returns
     returns-2)

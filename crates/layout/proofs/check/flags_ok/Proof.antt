@@ -1,26 +1,44 @@
 use denote.Ref.{now}
-use mathlib.Core.Path.{refl}
-use Prim.Native.Nat.{ℕ, _-_}
-use native.Mathlib.Omega.{arith}
-use Rattle.lists.proofs.Count.{Tested, tested-start, tested-next, tested-all}
-use Rattle.tables.specs.Sizes.{threads}
-use mathlib.Core.Bool.{Bool, _&&_}
+use mathlib.Core.Path.{_≡_, refl, sym, ap, _∙_}
+use mathlib.Core.Bool.{Bool, true, false, cond, _&&_}
 use mathlib.Core.List.{List}
-use Rattle.layout.specs.Check.{flagsFit, agrees}
+use Prim.Native.Nat.{ℕ, _+_, _-_, _≤_, _<_}
+use native.Mathlib.Numerals.{add-one}
+use native.Mathlib.Omega.{arith}
+use borrow.Author.Needs.{needs}
+use lib.Dec.{eqb}
+use Rattle.lists.specs.Lists.{bit, countBelow}
+use Rattle.lists.proofs.Tests.{bit-le}
+use Rattle.lists.proofs.Count.{Tested, tested-start, tested-next, tested-all, countBelow-le}
+use Rattle.tables.specs.Sizes.{threads}
+use Rattle.layout.specs.Check.{flagsFit, agrees, waits}
 use Rattle.layout.proofs.check.flags_ok.Statement.{statement}
 use Rattle.layout.proofs.check.flags_ok.Tie as tie
 
-abbrev fits : List ℕ → List Bool → ℕ → Bool
-fits b marks i = flagsFit b i && agrees marks b i
+abbrev fits : List ℕ → List ℕ → ℕ → Bool
+fits b place i = flagsFit b i && agrees place b i
+
+record Going (b place : List ℕ) (ok : Bool) (n i : ℕ) : Type 0 where
+  tested : Tested threads (fits b place) ok i
+  counted : n ≡ countBelow i (waits b)
+
+as-bit : (t : Bool) → cond t 1 0 ≡ bit t
+as-bit true = refl
+as-bit false = refl
+
+count-next : (i : ℕ) (f : ℕ → Bool) → countBelow (i + 1) f ≡ countBelow i f + bit (f i)
+unfolding countBelow
+count-next i f = ap (λ n. countBelow n f) (add-one i)
 
 abbrev Inv-loop : tie.InvT-loop
-Inv-loop b marks ok₀ i₀ ok i = Tested threads (fits b marks) ok i
+Inv-loop b count place ok₀ n₀ i₀ ok n i = Going b place ok n i
 
 abbrev μ-loop : tie.MeasureT-loop
-μ-loop b marks ok₀ i₀ ok i = threads - i
+μ-loop b count place ok₀ n₀ i₀ ok n i = threads - i
 
 loop-holds : tie.Need-loop-holds Inv-loop μ-loop
-loop-holds c = tested-start threads _
+unfolding countBelow
+loop-holds c = record { tested = tested-start threads _; counted = refl }
 
 add-waiting : tie.Need-add-waiting Inv-loop μ-loop
 add-waiting c = omega arith
@@ -49,6 +67,26 @@ shared-slice-read-priority c = omega arith
 array-read-ok : tie.Need-array-read-ok Inv-loop μ-loop
 array-read-ok c = omega arith
 
+either-requires : tie.Need-either-requires Inv-loop μ-loop
+either-requires c κs = search needs
+
+-- one turn: a sleeper more, or not
+module _ (c : tie.After-either Inv-loop μ-loop) where
+  abbrev at : tie.At-loop Inv-loop μ-loop
+  at = c .before .before .before .before .before .before
+
+  abbrev b : List ℕ
+  b = now (at .before .before .args .b)
+
+  one : c .either .result ≡ bit (waits b (at .loop .i))
+  one = c .either .ensures ∙ as-bit (waits b (at .loop .i))
+
+  few : at .loop .n ≤ at .loop .i
+  few = omega (arith, at .loop .inv .counted, countBelow-le (at .loop .i) (waits b))
+
+add-n : tie.Need-add-n Inv-loop μ-loop
+add-n c = omega (arith, few c, one c, bit-le (waits (b c) (at c .loop .i)), c .before .before .before .before .before .loop-test .taken)
+
 add-i : tie.Need-add-i Inv-loop μ-loop
 add-i c = omega arith
 
@@ -57,14 +95,25 @@ loop-less c = omega arith
 
 loop-again : tie.Need-loop-again Inv-loop μ-loop
 loop-again c =
-    let k = c .before .before .before .before .before in
-    let g = k .before in
-    tested-next threads (fits (now (g .args .b)) (g .args .t2)) (k .loop .ok) _ (k .loop .i) (k .loop .inv) (omega arith) refl
+    let k = at c .loop in
+    record {
+      tested = tested-next threads (fits (b c) (at c .before .before .args .t2)) (k .ok) _ (k .i) (k .inv .tested) (omega arith) refl;
+      counted = (λ j. k .inv .counted j + one c j) ∙ sym (count-next (k .i) (waits (b c)));
+    }
+
+cast-result : tie.Need-cast-result Inv-loop μ-loop
+cast-result c =
+    let k = c .before .loop in
+    omega (arith, k .inv .counted, countBelow-le (k .i) (waits (now (c .before .before .before .args .b))), k .inv .tested .within)
 
 returns : tie.Need-returns Inv-loop μ-loop
 returns c =
-    let g = c .before .before in
-    tested-all threads (fits (now (g .args .b)) (g .args .t2)) (c .before .loop .ok) (c .before .loop .i) (c .before .loop .inv) (omega arith)
+    let k = c .before .loop in
+    let g = c .before .before .before in
+    let b = now (g .args .b) in
+    let end : k .i ≡ threads = omega (arith, k .inv .tested .within) in
+    let number = k .inv .counted ∙ ap (λ m. countBelow m (waits b)) end in
+    (λ j. tested-all threads (fits b (g .args .t2)) (k .ok) (k .i) (k .inv .tested) (omega arith) j && eqb (number j) (g .args .count))
 
 pub flags-ok-spec : {M : Type 1} → statement M
 flags-ok-spec =
@@ -82,7 +131,10 @@ flags-ok-spec =
     add-priority
     shared-slice-read-priority
     array-read-ok
+    either-requires
+    add-n
     add-i
     loop-less
     loop-again
+    cast-result
     returns)

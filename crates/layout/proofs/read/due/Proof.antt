@@ -1,17 +1,17 @@
 use denote.Ref.{now}
 use mathlib.Core.Path.{_≡_, sym, ap, subst₂, _∙_}
-use mathlib.Core.Bool.{Bool, not}
+use mathlib.Core.Bool.{Bool}
 use mathlib.Core.List.{List}
-use Prim.Native.Nat.{ℕ, _+_, _-_, _<_}
+use Prim.Native.Nat.{ℕ, _-_, _≤_, _<_}
 use native.Mathlib.Omega.{arith}
 use borrow.Author.Needs.{needs}
 use lib.ListN.{length, take, getD}
-use lib.Seq.{length-take-le, getD-take}
-use Rattle.lists.proofs.Tests.{bit-le}
+use lib.Seq.{length-take-le}
+use Rattle.lists.proofs.Loops.{take-next}
 use Rattle.tables.specs.Sizes.{threads}
 use Rattle.tables.specs.Tables.{threadOf, arrivals, expired}
-use Rattle.tables.specs.Steps.{Numbers}
-use Rattle.arrivals.proofs.Searching.{Searching, searching-start, turn, walked-is}
+use Rattle.tables.specs.Steps.{Numbers, splitOf}
+use Rattle.arrivals.proofs.Splitting.{Splitting, splitting-start, splitting-next, splitting-all, part-few}
 use Rattle.tables.proofs.Sound.{tables-sound}
 use Rattle.tables.proofs.Stored.{list-numbers}
 use Rattle.layout.specs.Layout.{threadAt, stateAt}
@@ -27,7 +27,7 @@ abbrev isDue : List ℕ → ℕ → ℕ → Bool
 isDue b time t = expired time (threadOf (stateAt b) t)
 
 abbrev Inv-loop : tie.InvT-loop
-Inv-loop b time list count left₀ taken₀ w₀ n₀ i₀ left taken w n i = Searching (sleepers b) (isDue b time) threads left taken w n i
+Inv-loop b time list count left₀ taken₀ w₀ n₀ i₀ left taken w n i = (i ≤ count) × Splitting (isDue b time) (take i list) left taken w n
 
 abbrev μ-loop : tie.MeasureT-loop
 μ-loop b time list count left₀ taken₀ w₀ n₀ i₀ left taken w n i = count - i
@@ -58,12 +58,22 @@ module _ (c : tie.After-u64-at Inv-loop μ-loop) where
   long : length list ≡ threads
   long = search needs
 
-  size : length (sleepers b) ≡ count
-  size = ap length (sym sleepers-are) ∙ length-take-le count list (omega (arith, long, numbers .few))
-
 -- an entry is left to look at, so that both arrays have room
-room : (c : tie.In-loop Inv-loop μ-loop) → c .before .loop .w + c .before .loop .n < threads
-room c = omega (arith, c .before .loop .inv .so-far, numbers (c .before .before) .few)
+module _ (c : tie.In-loop Inv-loop μ-loop) where
+  abbrev at : tie.At-loop Inv-loop μ-loop
+  at = c .before
+
+  room : at .loop .i < threads
+  room = omega (arith, numbers (at .before) .few)
+
+  size : length (take (at .loop .i) (list (at .before))) ≡ at .loop .i
+  size = length-take-le (at .loop .i) (list (at .before)) (omega (arith, long (at .before), room))
+
+  taken-few : at .loop .n ≤ at .loop .i
+  taken-few = omega (arith, size, part-few _ _ _ _ (at .loop .inv .1 .out))
+
+  left-few : at .loop .w ≤ at .loop .i
+  left-few = omega (arith, size, part-few _ _ _ _ (at .loop .inv .1 .kept))
 
 list-at-requires : tie.Need-list-at-requires Inv-loop μ-loop
 list-at-requires c κs = c .before .pre .size
@@ -72,10 +82,10 @@ u64-at-requires : tie.Need-u64-at-requires Inv-loop μ-loop
 u64-at-requires c κs = omega (arith, c .before .before .pre .size)
 
 loop-holds : tie.Need-loop-holds Inv-loop μ-loop
-loop-holds c = searching-start (sleepers (b c)) (isDue (b c) (c .before .before .before .args .time)) threads
+loop-holds c = (omega arith, splitting-start (isDue (b c) (c .before .before .before .args .time)))
 
 array-read-e : tie.Need-array-read-e Inv-loop μ-loop
-array-read-e c = omega (arith, numbers (c .before .before) .few)
+array-read-e c = room c
 
 index-of-requires : tie.Need-index-of-requires Inv-loop μ-loop
 index-of-requires c κs = search needs
@@ -90,32 +100,28 @@ either-requires : tie.Need-either-requires Inv-loop μ-loop
 either-requires c κs = search needs
 
 array-write-taken : tie.Need-array-write-taken Inv-loop μ-loop
-array-write-taken c = omega (arith, room (c .before .before .before .before))
+array-write-taken c = let k = c .before .before .before .before in omega (arith, room k, taken-few k)
 
 either-requires-2 : tie.Need-either-requires-2 Inv-loop μ-loop
 either-requires-2 c κs = search needs
 
 array-write-left : tie.Need-array-write-left Inv-loop μ-loop
-array-write-left c = omega (arith, room (c .before .before .before .before .before))
+array-write-left c = let k = c .before .before .before .before .before in omega (arith, room k, left-few k)
 
 one-if-requires : tie.Need-one-if-requires Inv-loop μ-loop
 one-if-requires c κs = search needs
 
 add-n : tie.Need-add-n Inv-loop μ-loop
-add-n c =
-    let h = c .before .before .before in
-    omega (arith, room (h .before .before .before), c .one-if .ensures, bit-le (h .has-expired .result))
+add-n c = let k = c .before .before .before .before .before .before in omega (arith, room k, taken-few k, c .one-if .ensures .1)
 
 one-if-requires-2 : tie.Need-one-if-requires-2 Inv-loop μ-loop
 one-if-requires-2 c κs = search needs
 
 add-w : tie.Need-add-w Inv-loop μ-loop
-add-w c =
-    let h = c .before .before .before .before in
-    omega (arith, room (h .before .before .before), c .one-if2 .ensures, bit-le (not (h .has-expired .result)))
+add-w c = let k = c .before .before .before .before .before .before .before in omega (arith, room k, left-few k, c .one-if2 .ensures .1)
 
 add-i : tie.Need-add-i Inv-loop μ-loop
-add-i c = omega arith
+add-i c = let k = c .before .before .before .before .before .before .before in omega (arith, room k)
 
 loop-less : tie.Need-loop-less Inv-loop μ-loop
 loop-less c = omega arith
@@ -124,28 +130,31 @@ loop-again : tie.Need-loop-again Inv-loop μ-loop
 loop-again c =
     let h = c .before .before .before .before in
     let x = h .before .before in
-    let k = x .before .before in
-    let u = k .before in
+    let k = x .before in
+    let u = k .before .before in
     let time = u .before .before .before .args .time in
-    let at = k .loop in
-    let i = at .i in
+    let old = k .before .loop in
+    let i = old .i in
     let e = getD (list u) i 0 in
-    let low = numbers u .below i (x .before .loop-test .taken) in
+    let low = numbers u .below i (k .loop-test .taken) in
     let here : x .index-of .result ≡ e = x .index-of .ensures ∙ omega arith in
-    let is : getD (sleepers (b u)) i 0 ≡ e = ap (λ l. getD l i 0) (sym (sleepers-are u)) ∙ getD-take (count u) (list u) i 0 (x .before .loop-test .taken) in
     let hit : h .has-expired .result ≡ isDue (b u) time e =
     h .has-expired .ensures ∙ ap (expired time) (h .before .thread-at .ensures ∙ ap (threadAt (b u)) here ∙ sym (thread-read (b u) e low)) in
-    rw (c .one-if2 .ensures, c .before .one-if .ensures, c .before .before .either2 .ensures, c .before .before .before .either .ensures)
-    (turn (sleepers (b u)) (isDue (b u) time) threads (at .left) (at .taken) (at .w) (at .n) i (at .inv) e
-    (omega (arith, size u)) is (omega (arith, size u, numbers u .few)) (omega (arith, room (x .before))) (h .has-expired .result) hit)
+    let next = splitting-next (isDue (b u) time) (take i (list u)) (old .left) (old .taken) (old .w) (old .n) (old .inv .1) (omega (arith, size k, room k)) e
+    (h .has-expired .result) hit in
+    rw (c .one-if2 .ensures .0, c .before .one-if .ensures .0, c .before .before .either2 .ensures, c .before .before .before .either .ensures) (
+      omega (arith, k .loop-test .taken),
+      rw (take-next (list u) i 0 (omega (arith, long u, room k))) next,
+    )
 
 returns : tie.Need-returns Inv-loop μ-loop
 returns c =
     let k = c .before in
     let u = k .before in
-    let at = k .loop in
-    walked-is (sleepers (b u)) (isDue (b u) (u .before .before .before .args .time)) threads (at .left) (at .taken) (at .w) (at .n) (at .i) (at .inv)
-    (omega (arith, size u))
+    let f = isDue (b u) (u .before .before .before .args .time) in
+    let i : k .loop .i ≡ count u = omega (arith, k .loop .inv .0) in
+    splitting-all f (take (k .loop .i) (list u)) (k .loop .left) (k .loop .taken) (k .loop .w) (k .loop .n) (k .loop .inv .1)
+    ∙ ap (splitOf f) (ap (λ m. take m (list u)) i ∙ sleepers-are u)
 
 pub due-spec : {M : Type 1} → statement M
 due-spec =

@@ -22,8 +22,8 @@ returns c =
     let s = c .before .before .args .s in
     rw (lt-leb (s .count) threads (c .if1 .taken), and-false (sizesOk present s))
 
-seen-in-requires : tie.Need-seen-in-requires
-seen-in-requires c κs = search needs
+places-in-requires : tie.Need-places-in-requires
+places-in-requires c κs = search needs
 
 tail-ok-requires : tie.Need-tail-ok-requires
 tail-ok-requires c κs = search needs
@@ -35,9 +35,9 @@ returns-2 : tie.Need-returns-2
 returns-2 c =
     let k = c .before .before .before .before in
     let g = k .before .before .before .before in
-    checked (g .args .s) (k .seen-in .result .ok) (c .before .before .before .tail-ok .result) (c .before .records-ok .result) (k .seen-in .result .marks)
-    (long g) (entries g) (k .before .before .if1 .left) (k .seen-in .ensures) (c .before .before .before .tail-ok .ensures) (c .before .records-ok .ensures)
+    checked (g .args .s) (k .places-in .result .low) (c .before .before .before .tail-ok .result) (c .before .records-ok .result) (k .places-in .result .place)
+    (long g) (entries g) (k .before .before .if1 .left) (k .places-in .ensures) (c .before .before .before .tail-ok .ensures) (c .before .records-ok .ensures)
 
 pub tables-ok-spec : {M : Type 1} → statement M
 tables-ok-spec =
-    tie.close (tie.spec returns seen-in-requires tail-ok-requires records-ok-requires returns-2)
+    tie.close (tie.spec returns places-in-requires tail-ok-requires records-ok-requires returns-2)

@@ -1,31 +1,23 @@
 use denote.Ref.{now}
-use mathlib.Core.Path.{_≡_, refl, sym, ap, _∙_}
-use mathlib.Core.Bool.{Bool, true, false, cond}
-use mathlib.Core.List.{List}
-use Prim.Native.Nat.{ℕ}
-use native.Mathlib.Omega.{arith}
-use lib.ListN.{set, replicate}
-use mir.Facts.{toZ-pos}
-use mir.Syntax.{w32}
-use Rattle.tables.specs.declared.LastAnswer.the-variants.{Interrupted}
+use mathlib.Core.Path.{_≡_, refl, sym, subst, _∙_}
+use mathlib.Core.Bool.{false, cond}
+use Prim.Native.Nat.{ℕ, _<_}
 use Rattle.rules.specs.declared.event.Event.{Event}
 use Rattle.rules.specs.declared.event.Event.the-variants.{Interrupt}
 use Rattle.rules.specs.declared.answer.Errno.the-variants.{ESRCH}
 use Rattle.rules.specs.declared.answer.Verdict.the-variants.{Refuse, Pass}
 use Rattle.tables.specs.Sizes.{threads}
-use Rattle.tables.specs.Tables.{world, threadNumber}
-use Rattle.tables.specs.Steps.{flagged, endFirst}
-use Rattle.tables.proofs.Sound.{Sound, tables-sound}
-use Rattle.rules.specs.Answers.{plain, first, answered}
+use Rattle.tables.specs.Tables.{world, threadNumber, arrivals}
+use Rattle.tables.specs.Steps.{Places}
+use Rattle.rules.specs.Answers.{plain, first}
 use Rattle.rules.specs.Calls.{noThread}
 use Rattle.rules.specs.Events.{refusals, interruptEffect, effect}
 use Rattle.rules.proofs.Passed.{thread-process, thread-index}
-use Rattle.kernel.proofs.Events.{interrupt-ends}
 use Rattle.layout.specs.Layout.{stateAt, wordsAt}
 use Rattle.layout.specs.Check.{Held}
-use Rattle.vradomil.specs.Host.{seen, EventFits}
-use Rattle.vradomil.proofs.Steps.{read-back, stands, standing, took-done, event-refused, event-passed, changes-tables-refused, changes-tables-done}
-use Rattle.vradomil.proofs.Effects.{Ended, ended, answered-leaves}
+use Rattle.vradomil.specs.Host.{seen, EventFits, Leaves}
+use Rattle.vradomil.proofs.Steps.{read-back, event-refused, event-passed, changes-tables-refused, changes-tables-done}
+use Rattle.vradomil.proofs.Clocks.{interrupt-none, one-taken, interrupt-one}
 use Rattle.commands.proofs.Places.{thread-below, thread-there}
 use borrow.Author.Needs.{needs}
 use Rattle.vradomil.proofs.event.vradomil_interrupt.Statement.{statement}
@@ -44,11 +36,8 @@ fits g = search needs
 held : (c : tie.After-enum-told) → Held (now (start (c .before .before) .args .tables))
 held c = c .before .before .judge-buffers .ensures .held (c .enum-told .given .1)
 
-sound : (c : tie.After-enum-told) → Sound (stateAt (now (start (c .before .before) .args .tables)))
-sound c = tables-sound (stateAt (now (start (c .before .before) .args .tables))) (held c .sound)
-
-abbrev one : ℕ → List Bool
-one x = set (replicate threads false) x true
+places : (c : tie.After-enum-told) → Places (c .before .before .judge-buffers .result .place) (arrivals (stateAt (now (start (c .before .before) .args .tables))))
+places c = c .before .before .judge-buffers .ensures .places (c .enum-told .given .1)
 
 own : (c : tie.After-enum-told)
     → let g = start (c .before .before) in
@@ -58,13 +47,22 @@ own c =
     let g = start l in
     event-passed (event g) (now (g .args .tables)) (now (g .args .words)) (l .judge-buffers .result) (l .judge-buffers .ensures) refl (c .enum-told .given .1)
 
-stopped : (c : tie.After-end-first)
-    → let p = c .before .before .before .before .before in
-    Ended Interrupted (flagged (one (c .before .before .thread-index .result))) 1 (stateAt (now (start (p .before .before) .args .tables))) (c .end-first .result) (c .end-first .last .0)
-stopped c =
-    let p = c .before .before .before .before .before in
-    let stand = stands (now (start (p .before .before) .args .tables)) (held p) in
-    ended stand Interrupted _ _ _ _ (c .end-first .ensures _ stand)
+-- the thread exists, and has its own number
+exists : (c : tie.Else1) → let g = start (c .before .before .before .before) in noThread (g .args .process) (g .args .index) ≡ false
+exists c = sym (c .before .no-thread .ensures) ∙ c .if1 .left
+
+granted : (c : tie.Else1)
+    → let g = start (c .before .before .before .before) in
+    first (refusals (event g) (seen (now (g .args .tables)) (now (g .args .words)))) ≡ Pass
+granted c = own (c .before .before) ∙ rw (exists c)
+
+low : (c : tie.After-thread-index) → c .thread-index .result < threads
+low c = thread-below _ _ (c .thread-index .ensures)
+
+there : (c : tie.After-thread-index) → let g = start (c .before .before .before .before .before) in c .thread-index .result ≡ threadNumber (g .args .process) (g .args .index)
+there c =
+    let g = start (c .before .before .before .before .before) in
+    thread-there _ _ (c .thread-index .ensures) (thread-process (g .args .process) (g .args .index) (exists (c .before))) (thread-index (g .args .process) (g .args .index) (exists (c .before)))
 
 judge-buffers-requires : tie.Need-judge-buffers-requires
 judge-buffers-requires c κs = search needs
@@ -98,51 +96,65 @@ returns c =
 thread-index-requires : tie.Need-thread-index-requires
 thread-index-requires c κs = search needs
 
-array-write-flags : tie.Need-array-write-flags
-array-write-flags c = search needs
-
-end-first-requires : tie.Need-end-first-requires
-end-first-requires c κs =
-    let p = c .before .before .before .before in
-    standing (now (start (p .before .before) .args .tables)) (held p)
-
-cast-result : tie.Need-cast-result
-cast-result c = record { sfits = omega (arith, stopped (c .before .before) .few) }
+array-read-if2 : tie.Need-array-read-if2
+array-read-if2 c = search needs
 
 same-length-2 : tie.Need-same-length-2
 same-length-2 c = search needs
 
 returns-2 : tie.Need-returns-2
+unfolding effect
 returns-2 c =
-    let l = c .before .before .before .before in
-    let g = start l in
-    changes-tables-refused (event g) (now (g .args .tables)) (now (g .args .words)) _ _ (event-refused (event g) (now (g .args .tables)) (now (g .args .words)) (l .judge-buffers .result) (l .judge-buffers .ensures) refl _ (c .before .before .v .given .1))
-    (read-back (c .refusal .ensures)) (fits g)
+    let t = c .before .before in
+    let p = t .before .before .before in
+    let g = start (p .before .before) in
+    let b = now (g .args .tables) in
+    let m = now (g .args .words) in
+    changes-tables-done (event g) b m _ 0 _ (held p) (granted (t .before)) refl
+    (subst (λ (q : ℕ). Leaves (interruptEffect q (world (stateAt b) (wordsAt m))) 0 b) (there t)
+    (interrupt-none b (held p) (p .before .before .judge-buffers .result .place) (places p) (t .thread-index .result) (low t) (wordsAt m) (c .if2 .taken))) (fits g)
+
+cast-one : tie.Need-cast-one
+cast-one c = search needs
+
+array-write-one : tie.Need-array-write-one
+array-write-one c = search needs
+
+take-requires : tie.Need-take-requires
+take-requires c κs =
+    let o = c .before in
+    let t = o .before .before in
+    let p = t .before .before .before in
+    let g = start (p .before .before) in
+    (held p, one-taken (now (g .args .tables)) (held p) (p .before .before .judge-buffers .result .place) (places p) (t .thread-index .result) (low t) (o .if2 .left) _)
 
 same-length-3 : tie.Need-same-length-3
 same-length-3 c = search needs
 
 returns-3 : tie.Need-returns-3
-unfolding effect
 returns-3 c =
-    let e = c .before .before in
-    let t = e .before .before in
-    let o = t .before in
-    let n = o .before in
-    let p = n .before in
+    let l = c .before .before .before .before in
+    let g = start l in
+    changes-tables-refused (event g) (now (g .args .tables)) (now (g .args .words)) _ _ (event-refused (event g) (now (g .args .tables)) (now (g .args .words)) (l .judge-buffers .result) (l .judge-buffers .ensures) refl _ (c .before .before .v .given .1))
+    (read-back (c .refusal .ensures)) (fits g)
+
+same-length-4 : tie.Need-same-length-4
+same-length-4 c = search needs
+
+returns-4 : tie.Need-returns-4
+unfolding effect
+returns-4 c =
+    let k = c .before .before in
+    let o = k .before .before in
+    let t = o .before .before in
+    let p = t .before .before .before in
     let g = start (p .before .before) in
     let b = now (g .args .tables) in
     let m = now (g .args .words) in
-    let s = stateAt b in
     let x = t .thread-index .result in
-    let exists : noThread (g .args .process) (g .args .index) ≡ false = sym (n .no-thread .ensures) ∙ o .if1 .left in
-    let at = thread-there _ _ (t .thread-index .ensures) (thread-process (g .args .process) (g .args .index) exists) (thread-index (g .args .process) (g .args .index) exists) in
-    let taken = endFirst Interrupted (flagged (one x)) 1 s in
-    changes-tables-done (event g) b m _ (e .end-first .result) _ (held p) (own p ∙ rw exists)
-    (toZ-pos w32 {n = e .end-first .result} (omega (arith, stopped e .few)))
-    (answered-leaves (interruptEffect (threadNumber (g .args .process) (g .args .index)) (world s (wordsAt m))) _ (e .end-first .result) _
-    (interrupt-ends x s (wordsAt m) (sound p) (thread-below _ _ (t .thread-index .ensures)) taken refl ∙ ap (λ q. answered (interruptEffect q (world s (wordsAt m)))) at)
-    (took-done taken (e .end-first .result) _ (stopped e .took) (omega (arith, stopped e .few)))) (fits g)
+    changes-tables-done (event g) b m _ 1 _ (held p) (granted (t .before)) refl
+    (subst (λ (q : ℕ). Leaves (interruptEffect q (world (stateAt b) (wordsAt m))) 1 (k .take .last .0)) (there t)
+    (interrupt-one b (held p) (p .before .before .judge-buffers .result .place) (places p) x (low t) (o .if2 .left) (wordsAt m) (k .take .last .0) (k .take .ensures))) (fits g)
 
 pub vradomil-interrupt-spec : {M : Type 1} → statement M
 vradomil-interrupt-spec =
@@ -157,10 +169,13 @@ vradomil-interrupt-spec =
     same-length
     returns
     thread-index-requires
-    array-write-flags
-    end-first-requires
-    cast-result
+    array-read-if2
     same-length-2
     returns-2
+    cast-one
+    array-write-one
+    take-requires
     same-length-3
-    returns-3)
+    returns-3
+    same-length-4
+    returns-4)

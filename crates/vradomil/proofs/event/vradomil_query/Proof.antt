@@ -27,9 +27,9 @@ sound-requires c κs = search needs
 
 waiting-set-requires : tie.Need-waiting-set-requires
 waiting-set-requires c κs =
-    let k = c .before in
+    let k = c .before .before in
     let p = k .before .before .args .process in
-    let ok = k .sound .result in
+    let ok = k .sound .result .ok in
     (k .sound .ensures .held (and-left ok (ltb p processes) (c .if1 .taken)) .size, ltb-true p processes (and-right ok (ltb p processes) (c .if1 .taken)))
 
 mul-result : tie.Need-mul-result
@@ -48,7 +48,7 @@ returns : tie.Need-returns
 unfolding panelIn
 returns c =
     let j = c .before in
-    let k = j .before in
+    let k = j .before .before in
     let g = k .before .before in
     let b = now (g .args .tables) in
     let p = g .args .process in
@@ -56,7 +56,7 @@ returns c =
     record {
       number = by-cases (j .if1 .came)
           (λ w. ap (λ n. packed (panelOf n)) (w .2 ∙ w .1 .ensures
-          ∙ ap (waitingSet p) (sym (k .sound .ensures .held (and-left (k .sound .result) (ltb p processes) (w .0 .taken)) .tables))
+          ∙ ap (waitingSet p) (sym (k .sound .ensures .held (and-left (k .sound .result .ok) (ltb p processes) (w .0 .taken)) .tables))
           ∙ shown (tablesAt b) p (ap (_&& ltb p processes) (sym ok) ∙ w .0 .taken)))
           (λ w. ap (λ n. packed (panelOf n)) (w .1 ∙ hidden (tablesAt b) p (ap (_&& ltb p processes) (sym ok) ∙ w .0 .left)));
       fits = search needs;

@@ -1,0 +1,6 @@
+pub mod Uses
+pub mod Parts
+pub mod Decided
+pub mod Planned
+pub mod Carried
+pub mod Theorems

@@ -1,0 +1,4 @@
+pub mod Filling
+pub mod Ordering
+pub mod Viewing
+pub mod Theorems
