@@ -106,6 +106,8 @@ pub struct Mood {
     others: u64,
     /// Of a hundred wakes, how many take all.
     all: u64,
+    /// Of a hundred events, how many set a priority.
+    priorities: u64,
     /// How many processes take part.
     processes: u64,
     /// Of a hundred waits, how many have a timeout.
@@ -113,18 +115,32 @@ pub struct Mood {
 }
 
 const MOODS: &[Mood] = &[
-    Mood { waits: 50, edges: 10, faults: 3, others: 25, all: 5, processes: 8, timed: 50 },
-    Mood { waits: 60, edges: 5, faults: 5, others: 20, all: 10, processes: 2, timed: 40 },
+    Mood { waits: 50, edges: 10, faults: 3, others: 20, priorities: 12, ..PLAIN },
+    Mood { waits: 60, others: 15, all: 10, priorities: 25, processes: 2, timed: 40, ..PLAIN },
+    // Nobody goes before another but by arrival, as far as this mood goes.
+    Mood { waits: 60, others: 15, all: 10, priorities: 0, processes: 3, timed: 30, ..PLAIN },
     // The list fills up, to 64 in the end,
-    Mood { waits: 97, edges: 2, faults: 1, others: 6, all: 0, processes: 8, timed: 10 },
+    Mood { waits: 97, edges: 2, faults: 1, others: 5, all: 0, timed: 10, ..PLAIN },
     // or is drained by wakes, or by the clock.
-    Mood { waits: 10, edges: 5, faults: 5, others: 15, all: 60, processes: 8, timed: 50 },
-    Mood { waits: 80, edges: 2, faults: 1, others: 40, all: 5, processes: 4, timed: 95 },
+    Mood { waits: 10, others: 10, all: 60, ..PLAIN },
+    Mood { waits: 80, edges: 2, faults: 1, others: 35, processes: 4, timed: 95, ..PLAIN },
 ];
+
+/// What most moods share.
+const PLAIN: Mood = Mood {
+    waits: 50,
+    edges: 5,
+    faults: 5,
+    others: 20,
+    all: 5,
+    priorities: 8,
+    processes: 8,
+    timed: 50,
+};
 
 /// Each argument at an edge now and then: one to three of them at once.
 pub const EDGES: Mood =
-    Mood { waits: 40, edges: 90, faults: 25, others: 25, all: 10, processes: 8, timed: 60 };
+    Mood { waits: 40, edges: 90, faults: 25, all: 10, priorities: 10, timed: 60, ..PLAIN };
 
 pub fn mood(rng: &mut Rng) -> Mood {
     rng.pick(MOODS)
@@ -132,7 +148,9 @@ pub fn mood(rng: &mut Rng) -> Mood {
 
 /// The next event on these tables and words.
 pub fn next(rng: &mut Rng, mood: Mood, state: &State, words: &[u32]) -> Event {
-    let mut event = if rng.percent(mood.others) {
+    let mut event = if rng.percent(mood.priorities) {
+        set_priority(rng, mood, state)
+    } else if rng.percent(mood.others) {
         other(rng, mood, state)
     } else {
         Event::Call(call(rng, mood, state, words))
@@ -153,20 +171,30 @@ pub fn next(rng: &mut Rng, mood: Mood, state: &State, words: &[u32]) -> Event {
 fn other(rng: &mut Rng, mood: Mood, state: &State) -> Event {
     let process = rng.below(mood.processes) as u8;
     let index = rng.below(8) as u8;
-    match rng.below(14) {
+    match rng.below(10) {
         0..=2 => Event::Store { process, address: rng.pick(ADDRESSES), value: small(rng) },
         3..=5 => Event::Clock { time: time_near(rng, state) },
         6..=7 => Event::Interrupt { process, index },
-        8..=9 => Event::Query { process },
-        _ => Event::SetPriority { process, index, priority: priority(rng) },
+        _ => Event::Query { process },
     }
+}
+
+/// Half of them for a sleeper, so that the order at its word changes.
+fn set_priority(rng: &mut Rng, mood: Mood, state: &State) -> Event {
+    let (mut process, mut index) = (rng.below(mood.processes) as u8, rng.below(8) as u8);
+    if state.count > 0 && rng.percent(50) {
+        let number = state.list[rng.below(state.count) as usize];
+        (process, index) = (number / 8, number % 8);
+    }
+    Event::SetPriority { process, index, priority: priority(rng) }
 }
 
 /// One that can be set; the ends come often, so that some are equal.
 pub fn priority(rng: &mut Rng) -> u8 {
-    match rng.below(4) {
-        0 => rng.pick(&[0, 0, 1, HIGHEST_PRIORITY]),
-        _ => rng.below(1 + u64::from(HIGHEST_PRIORITY)) as u8,
+    if rng.percent(40) {
+        rng.pick(&[0, 0, 1, 30, HIGHEST_PRIORITY])
+    } else {
+        rng.below(1 + u64::from(HIGHEST_PRIORITY)) as u8
     }
 }
 
@@ -211,7 +239,7 @@ fn call(rng: &mut Rng, mood: Mood, state: &State, words: &[u32]) -> Call {
     let (process, index) = caller(rng, mood, state);
     let command =
         if rng.percent(mood.waits) { rng.pick(&[WAIT, WAIT_BITSET]) } else { rng.pick(WAKES) };
-    let uaddr = rng.pick(ADDRESSES);
+    let uaddr = first_address(rng, state, process);
     let mut call = Call {
         process,
         index,
@@ -256,6 +284,12 @@ fn cap(rng: &mut Rng, mood: Mood) -> u32 {
     }
 }
 
+/// Mostly where somebody sleeps, so that sleepers meet and wakes have a choice.
+fn first_address(rng: &mut Rng, state: &State, process: u8) -> u32 {
+    let met = if rng.percent(60) { slept_at(rng, state, process) } else { None };
+    met.unwrap_or_else(|| rng.pick(ADDRESSES))
+}
+
 /// An address where a thread of the caller's process sleeps.
 fn slept_at(rng: &mut Rng, state: &State, process: u8) -> Option<u32> {
     let count = THREADS_PER_PROCESS;
@@ -265,13 +299,8 @@ fn slept_at(rng: &mut Rng, state: &State, process: u8) -> Option<u32> {
     sleepers.next().map(|thread| thread.uaddr)
 }
 
-/// Half of these have a sleeper at their first word, so that some reach both of
-/// their caps.
 fn fit_second(rng: &mut Rng, mood: Mood, state: &State, words: &[u32], call: &mut Call) {
     call.val = cap(rng, mood);
-    if rng.percent(50) {
-        call.uaddr = slept_at(rng, state, call.process).unwrap_or(call.uaddr);
-    }
     call.uaddr2 = rng.pick(ADDRESSES);
     // Only the low 32 bits are the second cap.
     call.timeout = cap(rng, mood) as u64 + (rng.below(3) << 32);

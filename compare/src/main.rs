@@ -1,14 +1,15 @@
 //! Runs libvradomil.a and the second kernel on the same seeded events, in one
 //! process, and compares every answer and every byte that they leave.
 
+mod caps;
 mod events;
 mod host;
 mod operations;
+mod order;
 mod pair;
 mod priorities;
 mod reasons;
 mod room;
-mod searches;
 mod tables;
 mod tally;
 
@@ -125,10 +126,20 @@ impl Run<'_> {
         self.tally.event(event, given.number, Form::of(length), applying);
         self.tally.too_high(event, given.number, too_high);
         if given.number >= 0 {
-            self.tally.wake_op(self.pair.shown(event));
-            self.tally.search(event, self.pair.search_end(event));
-            self.tally.fates(event, self.pair.fates(event));
+            self.succeeded(event)?;
         }
+        Ok(())
+    }
+
+    /// What an event did that wasn't refused.
+    fn succeeded(&mut self, event: &Event) -> Result<(), String> {
+        if !self.pair.order_kept(event) {
+            return Err(format!("{event:?}: both take one before another who goes first"));
+        }
+        self.tally.wake_op(self.pair.shown(event));
+        self.tally.caps(event, self.pair.caps_end(event));
+        self.tally.order(event, self.pair.order_shown(event));
+        self.tally.fates(event, self.pair.fates(event));
         Ok(())
     }
 

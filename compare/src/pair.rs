@@ -8,12 +8,13 @@ use second::layout::{self, TABLE_BYTES};
 use second::model::{Event, State, PRIVATE_BIT, WAKE_OP, WORDS, WORDS_PER_PROCESS};
 use second::rng::Rng;
 
+use crate::caps;
 use crate::events;
 use crate::host;
 use crate::operations::Shown;
+use crate::order::{self, Shows};
 use crate::priorities::{self, Fates};
 use crate::room::Room;
-use crate::searches;
 
 /// The answer's number and its reason, as both sides gave them.
 #[derive(Clone, Copy)]
@@ -140,11 +141,27 @@ impl Pair {
         }
     }
 
-    /// How the search of the last event, answered with a count, ended.
-    pub fn search_end(&self, event: &Event) -> Option<usize> {
+    /// How the last event, answered with a count, used up its caps.
+    pub fn caps_end(&self, event: &Event) -> Option<usize> {
         match event {
-            Event::Call(call) => searches::end(call, &self.before, &self.bytes),
+            Event::Call(call) => caps::end(call, &self.before, &self.bytes),
             _ => None,
+        }
+    }
+
+    /// Whether the last event, not refused, took sleepers in their order.
+    pub fn order_kept(&self, event: &Event) -> bool {
+        match event {
+            Event::Call(call) => order::is_kept(call, &self.before, &self.bytes),
+            _ => true,
+        }
+    }
+
+    /// What the last event, not refused, shows of that order.
+    pub fn order_shown(&self, event: &Event) -> Shows {
+        match event {
+            Event::Call(call) => order::shown(call, &self.before, &self.bytes),
+            _ => Shows::default(),
         }
     }
 

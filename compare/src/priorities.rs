@@ -3,8 +3,8 @@
 //! to threads that have one, so that a run knows what it has tried.
 
 use second::bytes::u32_at;
-use second::layout::{BITSET, PRIORITY, UADDR, WAITING};
-use second::model::{Call, Event, State, PRIVATE_BIT, THREADS, THREADS_PER_PROCESS, WAKE_BITSET};
+use second::layout::{PRIORITY, UADDR, WAITING};
+use second::model::{Event, State, THREADS, THREADS_PER_PROCESS};
 
 use crate::tally::Kind;
 
@@ -15,15 +15,14 @@ pub const FATES: usize = 3;
 pub type Fates = [bool; FATES];
 
 const RELEASED: &str = "releases one with a priority";
-const PASSED: &str = "takes one and leaves a higher one";
 
 /// What events of a kind can do to threads with a priority above 0, each with its
 /// place.
 pub fn fates(kind: Kind) -> &'static [&'static str] {
     match kind {
         "WAIT" | "WAIT_BITSET" => &["puts one with a priority to sleep"],
-        "WAKE" | "WAKE_BITSET" | "WAKE_OP" => &[RELEASED, PASSED],
-        "REQUEUE" | "CMP_REQUEUE" => &[RELEASED, PASSED, "moves one with a priority"],
+        "WAKE" | "WAKE_BITSET" | "WAKE_OP" => &[RELEASED],
+        "REQUEUE" | "CMP_REQUEUE" => &[RELEASED, "moves one with a priority"],
         "clock" => &["times out one with a priority"],
         "interrupt" => &["interrupts one with a priority"],
         "set priority" => &["of a running thread", "of a sleeper", "from above 0 to 0"],
@@ -77,9 +76,9 @@ pub fn are_kept(event: &Event, number: i64, before: &[u8], after: &[u8]) -> bool
 /// What an event that wasn't refused did, by the places of its kind's fates.
 pub fn fates_of(event: &Event, before: &[u8], after: &[u8]) -> Fates {
     match *event {
-        Event::Call(ref call) => {
+        Event::Call(_) => {
             let (slept, ended, moved) = changes(before, after);
-            [slept || ended, passed(call, before, after), moved]
+            [slept || ended, moved, false]
         }
         Event::Clock { .. } | Event::Interrupt { .. } => [changes(before, after).1, false, false],
         Event::SetPriority { process, index, priority } => {
@@ -107,26 +106,4 @@ fn changes(before: &[u8], after: &[u8]) -> (bool, bool, bool) {
 
 fn address(tables: &[u8], number: usize) -> u32 {
     u32_at(tables, UADDR + 4 * number)
-}
-
-/// Whether a call took a sleeper at its first word and left one that it could have
-/// taken and that has a higher priority: it came later.
-fn passed(call: &Call, before: &[u8], after: &[u8]) -> bool {
-    let mask = if call.op & !PRIVATE_BIT == WAKE_BITSET { call.val3 } else { u32::MAX };
-    let first = thread(call.process, 0);
-    let matching = (first..first + THREADS_PER_PROCESS).filter(|&number| {
-        before[WAITING + number] == 1
-            && address(before, number) == call.uaddr
-            && u32_at(before, BITSET + 4 * number) & mask != 0
-    });
-    let (mut lowest_taken, mut highest_left) = (u8::MAX, 0);
-    for number in matching {
-        let priority = before[PRIORITY + number];
-        if after[WAITING + number] == 1 && address(after, number) == call.uaddr {
-            highest_left = highest_left.max(priority);
-        } else {
-            lowest_taken = lowest_taken.min(priority);
-        }
-    }
-    lowest_taken < highest_left
 }

@@ -16,9 +16,10 @@ pub fn sound(rng: &mut Rng, sleepers: usize) -> State {
         1 => u64::MAX - rng.below(4),
         _ => rng.below(100),
     };
+    let levels = levels(rng);
     for thread in &mut state.threads {
         thread.last = rng.below(4) as u8;
-        thread.priority = events::priority(rng);
+        thread.priority = rng.pick(&levels);
     }
     let mut numbers: [usize; THREADS] = std::array::from_fn(|number| number);
     for place in 0..sleepers {
@@ -27,6 +28,12 @@ pub fn sound(rng: &mut Rng, sleepers: usize) -> State {
         state.join(numbers[place], rng.pick(ADDRESSES), rng.pick(MASKS), deadline);
     }
     state
+}
+
+/// The priorities that tables have: one, or two, or any.
+fn levels(rng: &mut Rng) -> Vec<u8> {
+    let count = rng.pick(&[1, 2, 3, 64, 64]);
+    (0..count).map(|_| events::priority(rng)).collect()
 }
 
 /// None, or one above the clock; above the last clock there is none.

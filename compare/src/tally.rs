@@ -1,18 +1,20 @@
 //! How often each kind of event got each answer and each reason, how often each
-//! operation and comparison of WAKE_OP was seen, how the searches of wakes and
-//! requeues ended, what was done to threads that have a priority, how often a
-//! priority was too high, how often a running thread called though the list says
-//! 64 or more, and which of these must have come up for a run to count.
+//! operation and comparison of WAKE_OP was seen, how the caps of wakes and requeues
+//! were used up and what was seen of their order, what was done to threads that have
+//! a priority, how often a priority was too high, how often a running thread called
+//! though the list says 64 or more, and which of these must have come up for a run to
+//! count.
 
 use std::fmt::Write;
 
 use second::layout::ASLEEP;
 use second::model::{Event, State, PRIVATE_BIT, THREADS, THREADS_PER_PROCESS};
 
+use crate::caps::{self, ENDS};
 use crate::operations::{self, Shown, COMPARISONS, OPERATIONS, WAYS};
+use crate::order::{self, Shows, SHOWS};
 use crate::priorities::{self, Fates, TooHigh, FATES, RECORDS};
 use crate::reasons::{self, Reasons, SETS};
-use crate::searches::{self, ENDS};
 
 /// A kind of event: a command, or one of the others.
 pub type Kind = &'static str;
@@ -150,8 +152,10 @@ pub struct Tally {
     /// that was not negative, and one that was.
     compared: [[u64; WAYS]; COMPARISONS],
     operated: [[u64; 2]; 16],
-    /// How often the search of a kind ended so.
-    searched: [[u64; ENDS]; KINDS.len()],
+    /// How often the caps of a kind were used up so.
+    capped: [[u64; ENDS]; KINDS.len()],
+    /// How often a kind showed so much of its order.
+    ordered: [[u64; SHOWS]; KINDS.len()],
     /// How often a kind did so to threads that have a priority.
     fated: [[u64; FATES]; KINDS.len()],
     /// How often a kind was refused for a priority too high, in which record.
@@ -173,7 +177,8 @@ impl Tally {
             reasons: [[0; SETS]; KINDS.len()],
             compared: [[0; WAYS]; COMPARISONS],
             operated: [[0; 2]; 16],
-            searched: [[0; ENDS]; KINDS.len()],
+            capped: [[0; ENDS]; KINDS.len()],
+            ordered: [[0; SHOWS]; KINDS.len()],
             fated: [[0; FATES]; KINDS.len()],
             high: [[0; RECORDS.len()]; KINDS.len()],
             crowded: [0; KINDS.len()],
@@ -205,9 +210,15 @@ impl Tally {
         }
     }
 
-    pub fn search(&mut self, event: &Event, end: Option<usize>) {
+    pub fn caps(&mut self, event: &Event, end: Option<usize>) {
         if let Some(end) = end {
-            self.searched[place(event)][end] += 1;
+            self.capped[place(event)][end] += 1;
+        }
+    }
+
+    pub fn order(&mut self, event: &Event, shows: Shows) {
+        for (count, seen) in self.ordered[place(event)].iter_mut().zip(shows) {
+            *count += seen as u64;
         }
     }
 
@@ -287,20 +298,19 @@ impl Tally {
         }
     }
 
-    /// How often each kind's search ended in each way that it can.
-    fn searches(&self) -> impl Iterator<Item = (String, u64)> + '_ {
-        KINDS.iter().zip(&self.searched).flat_map(|(kind, counts)| {
-            let ends = searches::ends(kind).iter().zip(counts);
-            ends.map(move |(end, &count)| (format!("{kind}: {end}"), count))
-        })
+    /// How often each kind's caps were used up in each way that they can.
+    fn all_caps(&self) -> impl Iterator<Item = (String, u64)> + '_ {
+        by_kind(&self.capped, caps::ends)
+    }
+
+    /// How often each kind showed what it can of its order.
+    fn all_shows(&self) -> impl Iterator<Item = (String, u64)> + '_ {
+        by_kind(&self.ordered, order::shows)
     }
 
     /// How often each kind did what it can to threads that have a priority.
     fn all_fates(&self) -> impl Iterator<Item = (String, u64)> + '_ {
-        KINDS.iter().zip(&self.fated).flat_map(|(kind, counts)| {
-            let fates = priorities::fates(kind).iter().zip(counts);
-            fates.map(move |(fate, &count)| (format!("{kind}: {fate}"), count))
-        })
+        by_kind(&self.fated, priorities::fates)
     }
 
     /// The records in which a priority too high should have been refused and wasn't.
@@ -319,7 +329,7 @@ impl Tally {
         self.missing_reasons(&mut missing);
         self.missing_operations(&mut missing);
         self.missing_too_high(&mut missing);
-        let counted = self.searches().chain(self.all_fates());
+        let counted = self.all_caps().chain(self.all_shows()).chain(self.all_fates());
         missing.extend(counted.filter(|&(_, count)| count == 0).map(|(name, _)| name));
         let unseen = |&(kind, n): &(&Kind, u64)| n == 0 && due(kind).contains(&-16);
         for (kind, _) in KINDS.iter().zip(self.crowded).filter(unseen) {
@@ -334,9 +344,9 @@ impl Tally {
         missing
     }
 
-    /// One line: events by kind, answers, forms, reasons, comparisons, ends of
-    /// searches, fates of threads with a priority and priorities too high seen, calls
-    /// on a list that says 64 or more, tables.
+    /// One line: events by kind, answers, forms, reasons, comparisons, ends of caps,
+    /// orders, fates of threads with a priority and priorities too high seen, calls on
+    /// a list that says 64 or more, tables.
     pub fn summary(&self) -> String {
         let kinds = KINDS.iter().enumerate().map(|(at, kind)| {
             let counts = self.counts.iter().flat_map(|counts| counts[at]);
@@ -356,11 +366,11 @@ impl Tally {
         let _ = write!(text, ", asked ({}), reasons seen ({})", listed(forms), listed(seen));
         let (yes, no) = (self.compared_to(true), self.compared_to(false));
         let _ = write!(text, ", comparisons seen (true {yes}, false {no})");
-        let ends = self.searches().map(|(name, count)| format!("{name} {count}"));
-        let _ = write!(text, ", searches seen ({})", listed(ends));
-        let fates = self.all_fates().map(|(name, count)| format!("{name} {count}"));
+        let _ = write!(text, ", caps seen ({})", counted(self.all_caps()));
+        let _ = write!(text, ", order seen ({})", counted(self.all_shows()));
         let high: u64 = self.high.iter().flatten().sum();
-        let _ = write!(text, ", priorities seen ({}), too high {high}", listed(fates));
+        let fates = counted(self.all_fates());
+        let _ = write!(text, ", priorities seen ({fates}), too high {high}");
         let crowded: u64 = self.crowded.iter().sum();
         let _ =
             write!(text, ", called by a running thread on a list that says 64 or more {crowded}");
@@ -379,6 +389,21 @@ impl Tally {
         let sets = (0..SETS as Reasons).filter(|&set| reasons::lowest(set) == reason);
         sets.flat_map(|set| self.reasons.iter().map(move |counts| counts[set as usize])).sum()
     }
+}
+
+/// The counts of each kind, with the names that it has for them.
+fn by_kind<const N: usize>(
+    counts: &[[u64; N]; KINDS.len()],
+    names: fn(Kind) -> &'static [&'static str],
+) -> impl Iterator<Item = (String, u64)> + '_ {
+    KINDS.iter().zip(counts).flat_map(move |(kind, counts)| {
+        let named = names(kind).iter().zip(counts);
+        named.map(move |(name, &count)| (format!("{kind}: {name}"), count))
+    })
+}
+
+fn counted(parts: impl Iterator<Item = (String, u64)>) -> String {
+    listed(parts.map(|(name, count)| format!("{name} {count}")))
 }
 
 fn listed(parts: impl Iterator<Item = String>) -> String {

@@ -1,15 +1,15 @@
-//! The futex kernel by the rules of document 01 and requests (i), (ii), (v) and
-//! (vi) of document 02: the events, what they report and `step`, which applies one
+//! The futex kernel by the rules of document 01 and requests (i), (ii), (vi) and
+//! (vii) of document 02: the events, what they report and `step`, which applies one
 //! event to the tables and the lent words.
 
 mod calls;
-mod search;
+mod order;
 mod tables;
 
 use std::fmt;
 
-pub use search::{walk, Found, Search};
-pub use tables::{Row, State, Thread, INTERRUPTED, NO_ENTRY, NO_SLEEP_ENDED, TIMED_OUT, WOKEN};
+use order::Sleepers;
+pub use tables::{State, Thread, INTERRUPTED, NO_ENTRY, NO_SLEEP_ENDED, TIMED_OUT, WOKEN};
 
 /// Eight processes of eight threads each.
 pub const PROCESSES: usize = 8;
@@ -218,17 +218,17 @@ fn clock(state: &mut State, time: u64) -> Result<Answer, Refusal> {
     }
     state.clock = time;
     let over = |_: usize, thread: &Thread| thread.timed && thread.deadline <= time;
-    Ok(Answer::Number(state.end_sleeps(u32::MAX, TIMED_OUT, over)))
+    Ok(Answer::Number(state.end_sleeps(TIMED_OUT, over)))
 }
 
 fn interrupt(state: &mut State, process: u8, index: u8) -> Result<Answer, Refusal> {
     let target = thread_number(process, index).ok_or(ESRCH)?;
     // Only waiting threads are on the list, so a running one ends nothing: 0.
-    Ok(Answer::Number(state.end_sleeps(1, INTERRUPTED, |number, _| number == target)))
+    Ok(Answer::Number(state.end_sleeps(INTERRUPTED, |number, _| number == target)))
 }
 
-/// Of a sleeper as of a running thread. It is only kept: whom a wake takes hangs
-/// on arrival alone.
+/// Of a sleeper as of a running thread. Nobody changes places for it: the next wake
+/// or requeue asks for the priorities as they are then.
 fn set_priority(
     state: &mut State,
     process: u8,

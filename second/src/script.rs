@@ -5,10 +5,7 @@ use std::io::{self, Write};
 
 use crate::bytes::{u32_at, u64_at};
 use crate::log;
-use crate::model::{
-    self, Event, Search, State, Thread, EBADF, ESRCH, NO_ENTRY, NO_SLEEP_ENDED, PROCESSES, THREADS,
-    WORDS,
-};
+use crate::model::{self, Event, State, Thread, NO_ENTRY, NO_SLEEP_ENDED, THREADS, WORDS};
 
 /// One word more than the kernel wants, so that too long a memory can be lent.
 pub const MEMORY: usize = WORDS + 1;
@@ -19,7 +16,6 @@ const LEND: u8 = b'M';
 const POKE: u8 = b'P';
 const WORD: u8 = b'W';
 const DUMP: u8 = b'D';
-const SEARCH: u8 = b'S';
 
 /// The fields that a poke can name.
 pub const CLOCK: u8 = 0;
@@ -33,18 +29,6 @@ pub const DEADLINE: u8 = 7;
 pub const LAST: u8 = 8;
 pub const PRIORITY: u8 = 9;
 
-/// A search as a script asks for it. With flag 0 any mask matches, and the mask
-/// here is ignored.
-#[derive(Clone, Copy, Debug, Default, PartialEq, Eq)]
-pub struct Asked {
-    pub process: u8,
-    pub address: u32,
-    pub flag: u8,
-    pub mask: u32,
-    pub cap: u32,
-    pub second_cap: u32,
-}
-
 #[derive(Clone, Copy, Debug, PartialEq, Eq)]
 pub enum Record {
     Event(Event),
@@ -53,7 +37,6 @@ pub enum Record {
     Poke { field: u8, index: u8, value: u64 },
     Word { process: u8, address: u32 },
     Dump,
-    Search(Asked),
 }
 
 fn body_length(kind: u8) -> Option<usize> {
@@ -63,7 +46,6 @@ fn body_length(kind: u8) -> Option<usize> {
         LEND => Some(4),
         POKE => Some(10),
         WORD => Some(5),
-        SEARCH => Some(18),
         _ => log::body_length(kind),
     }
 }
@@ -81,7 +63,6 @@ pub fn read(bytes: &[u8], place: usize) -> Option<(Record, usize)> {
         LEND => Record::Lend(u32_at(body, 0)),
         POKE => Record::Poke { field: body[0], index: body[1], value: u64_at(body, 2) },
         WORD => Record::Word { process: body[0], address: u32_at(body, 1) },
-        SEARCH => Record::Search(Asked::read(body)),
         _ => Record::Event(log::decode_body(kind, body)),
     };
     let good = match record {
@@ -115,46 +96,7 @@ pub fn write(record: &Record, script: &mut Vec<u8>) {
             script.extend([WORD, process]);
             script.extend(address.to_le_bytes());
         }
-        Record::Search(ref asked) => asked.write(script),
     }
-}
-
-impl Asked {
-    fn read(body: &[u8]) -> Asked {
-        Asked {
-            process: body[0],
-            address: u32_at(body, 1),
-            flag: body[5],
-            mask: u32_at(body, 6),
-            cap: u32_at(body, 10),
-            second_cap: u32_at(body, 14),
-        }
-    }
-
-    fn write(&self, script: &mut Vec<u8>) {
-        script.extend([SEARCH, self.process]);
-        script.extend(self.address.to_le_bytes());
-        script.push(self.flag);
-        for number in [self.mask, self.cap, self.second_cap] {
-            script.extend(number.to_le_bytes());
-        }
-    }
-
-    pub fn search(&self) -> Search {
-        let Asked { process, address, flag, mask, cap, second_cap } = *self;
-        Search { process, address, mask: (flag != 0).then_some(mask), cap, second_cap }
-    }
-}
-
-/// Prints what a search finds on the tables as they are; it changes nothing.
-fn search(state: &State, asked: &Asked, out: &mut impl Write) -> io::Result<()> {
-    if !state.rules_hold() {
-        return writeln!(out, "{EBADF}");
-    }
-    if asked.process as usize >= PROCESSES {
-        return writeln!(out, "{ESRCH}");
-    }
-    writeln!(out, "{}", asked.search().along(state))
 }
 
 /// What a script runs on.
@@ -195,7 +137,6 @@ impl Machine {
                 writeln!(out, "{}", self.word(process, address))
             }
             Record::Dump => dump(&self.state, out),
-            Record::Search(ref asked) => search(&self.state, asked, out),
         }
     }
 
@@ -296,9 +237,5 @@ impl Script {
 
     pub fn dump(&mut self) {
         self.add(Record::Dump);
-    }
-
-    pub fn search(&mut self, asked: Asked) {
-        self.add(Record::Search(asked));
     }
 }

@@ -1,7 +1,7 @@
 //! Checks of this program by itself: the cases of document 01, its sentences
 //! one by one, the reasons, the signed WAKE_OP, the refusal that never comes, the
-//! log in pieces, the search and the priorities of document 02, round trips, and
-//! random runs against the rules said once more in another way.
+//! log in pieces, the priorities and the order of taking of document 02, round
+//! trips, and random runs against the rules said once more in another way.
 
 mod calls;
 mod cuts;
@@ -11,13 +11,14 @@ mod layouts;
 mod logs;
 mod never;
 mod operations;
+mod order;
 mod others;
+mod pairs;
 mod pieces;
 mod priorities;
 mod reasons;
 mod replays;
 mod scripts;
-mod searches;
 mod twelve;
 
 use std::fmt::Debug;
@@ -131,8 +132,9 @@ pub fn run() -> Checks {
     cuts::run(&mut checks);
     histories::run(&mut checks);
     never::run(&mut checks);
-    searches::run(&mut checks);
     priorities::run(&mut checks);
+    order::run(&mut checks);
+    pairs::run(&mut checks);
     checks
 }
 

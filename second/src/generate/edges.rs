@@ -1,20 +1,22 @@
 //! The edge script: the twelve cases of document 01, its edge numbers, every
 //! refusal and the order between them, the slips it names, and the reasons, the
-//! signed WAKE_OP, the full list, the search and the priorities of document 02.
+//! signed WAKE_OP, the full list, the priorities and the order of taking of
+//! document 02.
 
 mod arguments;
 mod broken;
 mod full;
 mod operations;
+mod order;
 mod priorities;
 mod reasons;
 mod refusals;
-mod searches;
 mod slips;
 mod times;
 mod twelve;
 
-use crate::model::Event;
+use super::tables;
+use crate::model::{Event, State};
 use crate::script::Script;
 use crate::shorthand::{self as s, Who};
 
@@ -30,8 +32,8 @@ pub fn script() -> Vec<u8> {
     full::add(&mut script);
     slips::add(&mut script);
     reasons::add(&mut script);
-    searches::add(&mut script);
     priorities::add(&mut script);
+    order::add(&mut script);
     script.bytes
 }
 
@@ -94,6 +96,13 @@ pub fn each_kind_by(who: Who) -> Vec<Event> {
     let mut events = each_by(who);
     events.extend([s::set_priority(who, 31), s::set_priority((7 - who.0, who.1), 1)]);
     events
+}
+
+/// Lays these tables down.
+fn set(script: &mut Script, state: &State) {
+    for record in tables::pokes(state) {
+        script.add(record);
+    }
 }
 
 /// Three sleepers at 8 and one at 16 in process 0, and one at 8 in process 1,

@@ -2,6 +2,7 @@
 //! and caps, masks of few bits, deadlines near the clock, edge numbers. The
 //! tables and words are looked at, so that many waits truly sleep.
 
+use super::aimed;
 use crate::model::{
     Call, Event, State, CMP_REQUEUE, FIRST_BAD_ADDRESS, HIGHEST_PRIORITY, PROCESSES, REQUEUE,
     THREADS_PER_PROCESS, WAIT, WAIT_BITSET, WAKE, WAKE_BITSET, WAKE_OP, WORDS_PER_PROCESS,
@@ -55,16 +56,24 @@ const EDGE_WORDS: &[i32] = &[i32::MIN, -2049, -2048, -2, -1, 0, 1, 2047, 2048, i
 const EDGE_OPARGS: &[i32] = &[-2048, -33, -32, -31, -2, -1, 0, 1, 2, 3, 31, 32, 33, 2047];
 const EDGE_CMPARGS: &[i32] = &[-2048, -2, -1, 0, 1, 2, 3, 2047];
 
-/// The next event of a history that has come to these tables and words.
+/// The next event of a history that has come to these tables and words. Priorities
+/// are set often until a fair number of threads have one.
 pub fn next(rng: &mut Rng, state: &State, words: &[u32]) -> Event {
-    if rng.percent(8) {
-        return s::set_priority((process(rng), index(rng)), priority(rng));
+    let given = state.threads.iter().filter(|thread| thread.priority > 0).count();
+    if rng.percent(if given < 12 { 25 } else { 10 }) {
+        return s::set_priority(aimed::target(rng, state), priority(rng));
     }
-    next_but_priorities(rng, state, words)
+    next_that_keeps(rng, state, words)
 }
 
-/// The same of all other kinds, for logs that are to stay as they were before
-/// there were priorities.
+/// The same, but that it leaves all priorities as they are.
+pub fn next_that_keeps(rng: &mut Rng, state: &State, words: &[u32]) -> Event {
+    let aimed = rng.percent(30).then(|| aimed::call(rng, state, words)).flatten();
+    aimed.unwrap_or_else(|| next_but_priorities(rng, state, words))
+}
+
+/// What there was before there were priorities, for logs that are to stay as they
+/// were then.
 pub fn next_but_priorities(rng: &mut Rng, state: &State, words: &[u32]) -> Event {
     match rng.below(100) {
         0..=71 => Event::Call(call(rng, state, words)),
@@ -86,7 +95,7 @@ pub fn process(rng: &mut Rng) -> u8 {
     }
 }
 
-fn index(rng: &mut Rng) -> u8 {
+pub fn index(rng: &mut Rng) -> u8 {
     if rng.percent(97) {
         rng.below(8) as u8
     } else {
@@ -96,15 +105,20 @@ fn index(rng: &mut Rng) -> u8 {
 
 /// Mostly one that can be set.
 fn priority(rng: &mut Rng) -> u8 {
-    if rng.percent(75) {
+    if rng.percent(85) {
         any_priority(rng)
     } else {
         rng.pick(EDGE_PRIORITIES)
     }
 }
 
+/// Few of them come often, so that some sleepers are equal.
 pub fn any_priority(rng: &mut Rng) -> u8 {
-    rng.below(1 + u64::from(HIGHEST_PRIORITY)) as u8
+    if rng.percent(60) {
+        rng.pick(&[0, 1, 30, HIGHEST_PRIORITY])
+    } else {
+        rng.below(1 + u64::from(HIGHEST_PRIORITY)) as u8
+    }
 }
 
 pub fn address(rng: &mut Rng) -> u32 {

@@ -144,7 +144,8 @@ fn bad_flag(rng: &mut Rng) -> Vec<u8> {
 }
 
 /// A short log to read: a lock handed over, a stale word, a requeue that keeps
-/// a deadline, a timeout, an interrupt, a refusal.
+/// a deadline, a timeout, an interrupt, refusals, and a stop key that goes before a
+/// sleeper who came earlier.
 pub fn story() -> Vec<u8> {
     of(&[
         s::store(0, 8, 2),
@@ -162,6 +163,12 @@ pub fn story() -> Vec<u8> {
         s::wake((9, 0), 8, 1),
         s::set_priority((3, 0), 31),
         s::set_priority((3, 0), 32),
+        s::wait((3, 1), 24, 0),
+        s::wait((3, 0), 24, 0),
+        s::wake((3, 2), 24, 1),
+        // Who was left: not the stop key.
+        s::interrupt((3, 0)),
+        s::interrupt((3, 1)),
     ])
 }
 
@@ -173,7 +180,8 @@ fn of(events: &[Event]) -> Vec<u8> {
     bytes
 }
 
-/// The logs that a replay is tried on: the short one to read, those without priorities, then those with.
+/// The logs that a replay is tried on: the short one to read, those without
+/// priorities, then those with.
 pub fn edges() -> Vec<Vec<u8>> {
     let mut logs = vec![story()];
     logs.extend(without_priorities());
@@ -183,7 +191,7 @@ pub fn edges() -> Vec<Vec<u8>> {
 
 /// Every refusal at the first record and at a later one, cuts at every byte, logs
 /// around the end of a replay's first piece, and random logs, whole and damaged.
-fn without_priorities() -> Vec<Vec<u8>> {
+pub fn without_priorities() -> Vec<Vec<u8>> {
     let draw = events::next_but_priorities;
     let wait = s::wait_for((0, 1), 8, 5, 7);
     let records = [wait, s::store(0, 8, 5), s::clock(9), s::interrupt((0, 1))];

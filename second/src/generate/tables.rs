@@ -24,10 +24,8 @@ pub fn with_sleepers(rng: &mut Rng, sleepers: usize) -> State {
         1 => u64::MAX - rng.below(4),
         _ => rng.below(20),
     };
-    for thread in &mut state.threads {
-        thread.last = rng.below(4) as u8;
-        thread.priority = any_priority(rng);
-    }
+    state.threads.iter_mut().for_each(|thread| thread.last = rng.below(4) as u8);
+    set_priorities(rng, &mut state);
     for number in shuffled(rng).into_iter().take(sleepers) {
         let uaddr = if rng.percent(80) { rng.pick(&[0, 4, 8]) } else { rng.pick(GOOD_ADDRESSES) };
         let bitset = rng.pick(MASKS);
@@ -35,6 +33,18 @@ pub fn with_sleepers(rng: &mut Rng, sleepers: usize) -> State {
         state.join(number, uaddr, bitset, deadline);
     }
     state
+}
+
+/// All equal, or of two or three that are next to each other or far apart, or any.
+pub fn set_priorities(rng: &mut Rng, state: &mut State) {
+    let one = any_priority(rng);
+    let levels = match rng.below(10) {
+        0 => vec![one],
+        1..=2 => vec![one, (one + 1 + rng.below(31) as u8) % 32],
+        3..=5 => vec![0, 30, 31],
+        _ => (0..=31).collect(),
+    };
+    state.threads.iter_mut().for_each(|thread| thread.priority = rng.pick(&levels));
 }
 
 fn shuffled(rng: &mut Rng) -> [usize; THREADS] {

@@ -2,10 +2,10 @@
 //! each command does.
 
 use super::{
-    thread_number, word_number, Answer, Call, Refusal, Search, State, CLOCK_BIT, CMP_REQUEUE,
+    thread_number, word_number, Answer, Call, Refusal, Sleepers, State, CLOCK_BIT, CMP_REQUEUE,
     EAGAIN, EBUSY, EFAULT, ENOMEM, ENOSYS, ESRCH, ETIMEDOUT, FIRST_BAD_ADDRESS, FIRST_CAP,
     MASK_ZERO, PRIVATE_BIT, REQUEUE, SAME_ADDRESS, SECOND_CAP, THREADS, UADDR2_NOT_ALIGNED,
-    UADDR_NOT_ALIGNED, WAIT, WAIT_BITSET, WAKE, WAKE_BITSET, WAKE_OP,
+    UADDR_NOT_ALIGNED, WAIT, WAIT_BITSET, WAKE, WAKE_BITSET, WAKE_OP, WOKEN,
 };
 
 /// The highest cap that a wake may carry.
@@ -159,47 +159,39 @@ fn deadline(command: Command, call: &Call, clock: u64) -> Option<u64> {
 fn wake_or_requeue(state: &mut State, words: &mut [u32], command: Command, call: &Call) -> i32 {
     match command {
         WakeOp => wake_op(state, words, call),
-        WakeBitset => release(state, wake(call, Some(call.val3))),
+        WakeBitset => release(state, at(call, Some(call.val3)), call.val),
         // REQUEUE reports the released only, CMP_REQUEUE the sum.
         Requeue => requeue(state, call).0,
         CmpRequeue => {
             let (released, moved) = requeue(state, call);
             released + moved
         }
-        _ => release(state, wake(call, None)),
+        _ => release(state, at(call, None), call.val),
     }
 }
 
-/// The search of a wake at uaddr: it has one cap.
-fn wake(call: &Call, mask: Option<u32>) -> Search {
-    Search { process: call.process, address: call.uaddr, mask, cap: call.val, second_cap: 0 }
+/// The sleepers at uaddr.
+fn at(call: &Call, mask: Option<u32>) -> Sleepers {
+    Sleepers { process: call.process, address: call.uaddr, mask }
 }
 
-/// One search, and whomever either cap takes is released. Gives how many.
-fn release(state: &mut State, search: Search) -> i32 {
-    let found = search.along(state);
-    state.wake(&found.first);
-    state.wake(&found.second);
-    state.set_list(&found.left);
-    (found.first.entries().len() + found.second.entries().len()) as i32
+/// Gives how many it released.
+fn release(state: &mut State, sleepers: Sleepers, cap: u32) -> i32 {
+    let taken = sleepers.take(state, cap);
+    state.let_run(&taken, WOKEN)
 }
 
-/// One search with two caps: the first releases, the second moves to uaddr2 and
-/// to the end of the list. Gives how many each took.
+/// The next after those that the first cap releases move, in the order in which
+/// they are taken. Gives how many were released and how many moved.
 fn requeue(state: &mut State, call: &Call) -> (i32, i32) {
-    let search = Search { second_cap: second_cap(call), ..wake(call, None) };
-    let found = search.along(state);
-    state.wake(&found.first);
-    state.set_address(&found.second, call.uaddr2);
-    let mut listed = found.left;
-    listed.extend(found.second.entries());
-    state.set_list(&listed);
-    (found.first.entries().len() as i32, found.second.entries().len() as i32)
+    let released = release(state, at(call, None), call.val);
+    let taken = at(call, None).take(state, second_cap(call));
+    (released, state.put_last(&taken, call.uaddr2))
 }
 
 /// WAKE_OP: the second word changes first, then sleepers of the first word are
-/// released, then, if the old second word compares true, those of the second.
-/// Where both are one word this is one search with two caps.
+/// released, then, if the old second word compares true, those of the second
+/// that are still asleep.
 fn wake_op(state: &mut State, words: &mut [u32], call: &Call) -> i32 {
     let Some(operation) = Operation::of(call.val3) else {
         return ENOSYS; // tested before; nothing has changed here either
@@ -207,15 +199,13 @@ fn wake_op(state: &mut State, words: &mut [u32], call: &Call) -> i32 {
     let place = word_number(call.process, call.uaddr2);
     let old = words[place];
     words[place] = operation.new_word(old);
-    let first = wake(call, None);
+    let first = at(call, None);
+    let released = release(state, first, call.val);
     if !operation.compares_true(old) {
-        return release(state, first);
+        return released;
     }
-    if call.uaddr == call.uaddr2 {
-        return release(state, Search { second_cap: second_cap(call), ..first });
-    }
-    let second = Search { address: call.uaddr2, cap: second_cap(call), ..first };
-    release(state, first) + release(state, second)
+    let second = Sleepers { address: call.uaddr2, ..first };
+    released + release(state, second, second_cap(call))
 }
 
 /// What a field of so many bits stands for as a signed number: the upper half

@@ -57,8 +57,7 @@ impl Thread {
     }
 }
 
-/// Threads in the order in which they stand, or stood, on the list.
-#[derive(Clone, Copy, Debug, PartialEq, Eq)]
+/// Threads in an order: that of the list, or that in which they are taken off it.
 pub struct Row {
     list: [u8; THREADS],
     count: usize,
@@ -71,14 +70,18 @@ impl Row {
         &self.list[..self.count]
     }
 
+    pub fn entries_mut(&mut self) -> &mut [u8] {
+        &mut self.list[..self.count]
+    }
+
     pub fn push(&mut self, entry: u8) {
         self.list[self.count] = entry;
         self.count += 1;
     }
 
-    pub fn extend(&mut self, entries: &[u8]) {
-        self.list[self.count..self.count + entries.len()].copy_from_slice(entries);
-        self.count += entries.len();
+    /// Leaves the first `count` of them, or all if they are fewer.
+    pub fn truncate(&mut self, count: usize) {
+        self.count = self.count.min(count);
     }
 }
 
@@ -144,49 +147,53 @@ impl State {
         self.count += 1;
     }
 
-    /// Ends the sleep of the first `cap` listed threads that `chosen` picks,
-    /// with the given last answer. All others stay listed in their order, and
-    /// one that is passed over doesn't count against the cap. Gives how many.
-    pub fn end_sleeps(
-        &mut self,
-        cap: u32,
-        last: u8,
-        chosen: impl Fn(usize, &Thread) -> bool,
-    ) -> i32 {
-        let mut ended = 0;
-        let mut kept = [NO_ENTRY; THREADS];
-        let mut kept_count = 0;
-        for &entry in &self.list[..self.count as usize] {
-            let number = entry as usize;
-            if ended < cap && chosen(number, &self.threads[number]) {
-                self.threads[number].end(last);
-                ended += 1;
-            } else {
-                kept[kept_count] = entry;
-                kept_count += 1;
+    /// The arrival list of sound tables.
+    pub(super) fn listed(&self) -> &[u8] {
+        &self.list[..self.count as usize]
+    }
+
+    /// Ends the sleep of all listed threads that `chosen` picks, with the given
+    /// last answer. Gives how many.
+    pub(super) fn end_sleeps(&mut self, last: u8, chosen: impl Fn(usize, &Thread) -> bool) -> i32 {
+        let mut ended = Row::EMPTY;
+        for &entry in self.listed() {
+            if chosen(entry as usize, &self.threads[entry as usize]) {
+                ended.push(entry);
             }
         }
-        self.list = kept;
-        self.count = kept_count as u64;
-        ended as i32
+        self.unlist(&ended);
+        self.let_run(&ended, last)
     }
 
-    /// Lets threads run that a wake or a requeue has taken off the list.
-    pub fn wake(&mut self, taken: &Row) {
+    /// Takes threads off the list; all others keep their order.
+    pub(super) fn unlist(&mut self, taken: &Row) {
+        let mut left = Row::EMPTY;
+        for &entry in self.listed() {
+            if !taken.entries().contains(&entry) {
+                left.push(entry);
+            }
+        }
+        self.list = left.list;
+        self.count = left.count as u64;
+    }
+
+    /// Ends the sleep of threads that have been taken off the list. Gives how many.
+    pub(super) fn let_run(&mut self, taken: &Row, last: u8) -> i32 {
         for &entry in taken.entries() {
-            self.threads[entry as usize].end(WOKEN);
+            self.threads[entry as usize].end(last);
         }
+        taken.count as i32
     }
 
-    /// Gives sleepers another word; all else in their records is kept.
-    pub fn set_address(&mut self, moved: &Row, address: u32) {
-        for &entry in moved.entries() {
+    /// Puts threads that have been taken off the list to sleep at another word, at
+    /// the list's end in their order; all else in their records is kept. Gives how
+    /// many.
+    pub(super) fn put_last(&mut self, taken: &Row, address: u32) -> i32 {
+        for &entry in taken.entries() {
             self.threads[entry as usize].uaddr = address;
+            self.list[self.count as usize] = entry;
+            self.count += 1;
         }
-    }
-
-    pub fn set_list(&mut self, listed: &Row) {
-        self.list = listed.list;
-        self.count = listed.count as u64;
+        taken.count as i32
     }
 }

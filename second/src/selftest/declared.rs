@@ -1,18 +1,30 @@
-//! The rules of document 01 and requests (i), (ii), (v) and (vi) of document 02
+//! The rules of document 01 and requests (i), (ii), (vi) and (vii) of document 02
 //! said once more, in another way: refusals as the table of answers, reasons as a
 //! set, effects as sets of threads taken from queues, WAKE_OP's signed numbers by
-//! moving their bits, looks as the length of a prefix, a priority as what no sleep
-//! and no waking names. It builds whole new tables and words, to be compared with
-//! what `step` left behind.
+//! moving their bits, a priority as what no sleep and no waking names, the order of
+//! taking by counting who goes before whom. It builds whole new tables and words,
+//! to be compared with what `step` left behind.
 
 use std::collections::BTreeSet;
 
-use crate::model::{Answer, Call, Event, Report, Search, State, Thread, THREADS, WORDS};
+use crate::model::{Answer, Call, Event, Report, State, Thread, THREADS, WORDS};
 
 type Outcome = (Report, State, Vec<u32>);
 
+/// By what sleepers are taken: as request (vii) has it, or as it was before.
+#[derive(Clone, Copy, PartialEq, Eq)]
+pub enum Order {
+    Priority,
+    Arrival,
+}
+
 /// What an event must report and leave behind.
 pub fn outcome(state: &State, words: &[u32], event: &Event) -> Outcome {
+    outcome_by(Order::Priority, state, words, event)
+}
+
+/// The same by either order.
+pub fn outcome_by(order: Order, state: &State, words: &[u32], event: &Event) -> Outcome {
     if let Event::Query { process } = *event {
         return (Report::plain(panel(state, process)), state.clone(), words.to_vec());
     }
@@ -23,7 +35,7 @@ pub fn outcome(state: &State, words: &[u32], event: &Event) -> Outcome {
     }
     let (mut after, mut new_words) = (state.clone(), words.to_vec());
     let answer = match *event {
-        Event::Call(ref call) => effect(state, &mut after, &mut new_words, call),
+        Event::Call(ref call) => effect(order, state, &mut after, &mut new_words, call),
         Event::Store { process, address, value } => {
             new_words[word(process, address)] = value;
             Answer::Number(0)
@@ -75,43 +87,21 @@ fn queue_at(state: &State, process: u8, address: u32) -> Vec<usize> {
     queue(state).into_iter().filter(here).collect()
 }
 
-/// What a search must hand back on sound tables: whom the first cap takes, whom
-/// the second, who is left, and the looks: the length of the shortest prefix that
-/// has as many matches as both caps want, or all of the list.
-pub fn search(state: &State, search: &Search) -> (Vec<u8>, Vec<u8>, Vec<u8>, usize) {
-    let suits = |t: &usize| match search.mask {
-        Some(mask) => state.threads[*t].bitset & mask != 0,
-        None => true,
-    };
-    let mut here = queue_at(state, search.process, search.address);
-    here.retain(suits);
-    let (cap, second_cap) = (search.cap as usize, search.second_cap as usize);
-    let released: Vec<usize> = here.iter().copied().take(cap).collect();
-    let moved: Vec<usize> = here.iter().copied().skip(cap).take(second_cap).collect();
-    let all = queue(state);
-    let mut left = all.clone();
-    left.retain(|t| !released.contains(t) && !moved.contains(t));
-    let matches = |length: &usize| all[..*length].iter().filter(|t| here.contains(t)).count();
-    let shortest = (0..=all.len()).find(|length| matches(length) == cap + second_cap);
-    let bytes = |threads: Vec<usize>| threads.into_iter().map(|t| t as u8).collect();
-    (bytes(released), bytes(moved), bytes(left), shortest.unwrap_or(all.len()))
-}
-
-/// What a script prints for a search.
-pub fn searched(state: &State, asked: &Search) -> String {
-    if !sound(state) {
-        return "-9".into();
+/// Those of a queue whose turns are `from` up to, but not, `to`, one turn after
+/// another. Nothing is sorted: a sleeper's turn is how many others go before it.
+fn with_turns(order: Order, state: &State, here: &[usize], turns: (usize, usize)) -> Vec<usize> {
+    let (from, to) = (turns.0.min(here.len()), turns.1.min(here.len()));
+    if order == Order::Arrival {
+        return here[from..to].to_vec();
     }
-    if asked.process > 7 {
-        return "-3".into();
-    }
-    let (released, moved, left, looks) = search(state, asked);
-    let text = |name: &str, threads: Vec<u8>| {
-        let numbers = threads.into_iter().map(|t| format!(" {t}"));
-        format!(" {name}{}", numbers.collect::<String>())
+    let priority = |place: usize| state.threads[here[place]].priority;
+    let turn = |place: usize| {
+        let earlier = (0..place).filter(|&other| priority(other) >= priority(place)).count();
+        let later = (place..here.len()).filter(|&other| priority(other) > priority(place)).count();
+        earlier + later
     };
-    let [released, moved] = [text("released", released), text("moved", moved)];
-    format!("looks {looks}{released}{moved}{}", text("left", left))
+    let whose = |wanted: usize| (0..here.len()).find(|&place| turn(place) == wanted);
+    (from..to).filter_map(whose).map(|place| here[place]).collect()
 }
 
 /// The table rules, by counting instead of marking.
@@ -254,19 +244,30 @@ fn set_list(after: &mut State, listed: &[usize]) {
 }
 
 /// A call that no row refuses.
-fn effect(state: &State, after: &mut State, words: &mut [u32], call: &Call) -> Answer {
-    let here = queue_at(state, call.process, call.uaddr);
-    let cap = call.val as usize;
+fn effect(
+    order: Order,
+    state: &State,
+    after: &mut State,
+    words: &mut [u32],
+    call: &Call,
+) -> Answer {
+    let mut here = queue_at(state, call.process, call.uaddr);
     match call.op & !128 {
         0 | 9 => fall_asleep(after, call),
-        1 => end(after, &here[..cap.min(here.len())], 1),
+        1 => end(after, &with_turns(order, state, &here, (0, call.val as usize)), 1),
         10 => {
-            let shares = |t: &usize| state.threads[*t].bitset & call.val3 != 0;
-            let chosen: Vec<usize> = here.into_iter().filter(shares).take(cap).collect();
-            end(after, &chosen, 1)
+            here.retain(|&t| state.threads[t].bitset & call.val3 != 0);
+            end(after, &with_turns(order, state, &here, (0, call.val as usize)), 1)
         }
-        5 => wake_op(state, after, words, call),
-        command => requeue(after, &here, call, command == 4),
+        5 => wake_op(order, state, after, words, call),
+        command => {
+            let last = call.val as usize + call.timeout as u32 as usize;
+            let released = with_turns(order, state, &here, (0, call.val as usize));
+            let moved = with_turns(order, state, &here, (call.val as usize, last));
+            requeue(after, &released, &moved, call.uaddr2);
+            let counted = if command == 4 { moved.len() } else { 0 };
+            Answer::Number((released.len() + counted) as i32)
+        }
     }
 }
 
@@ -284,32 +285,33 @@ fn fall_asleep(after: &mut State, call: &Call) -> Answer {
     Answer::Asleep
 }
 
-fn requeue(after: &mut State, here: &[usize], call: &Call, sum: bool) -> Answer {
-    let released: Vec<usize> = here.iter().copied().take(call.val as usize).collect();
-    let cap = call.timeout as u32 as usize;
-    let moved: Vec<usize> = here.iter().copied().skip(released.len()).take(cap).collect();
-    end(after, &released, 1);
+fn requeue(after: &mut State, released: &[usize], moved: &[usize], address: u32) {
+    end(after, released, 1);
     let mut listed: Vec<usize> = queue(after);
     listed.retain(|t| !moved.contains(t));
-    listed.extend(&moved);
+    listed.extend(moved);
     set_list(after, &listed);
-    for &t in &moved {
-        after.threads[t].uaddr = call.uaddr2;
+    for &t in moved {
+        after.threads[t].uaddr = address;
     }
-    Answer::Number((released.len() + if sum { moved.len() } else { 0 }) as i32)
 }
 
-fn wake_op(state: &State, after: &mut State, words: &mut [u32], call: &Call) -> Answer {
+fn wake_op(
+    order: Order,
+    state: &State,
+    after: &mut State,
+    words: &mut [u32],
+    call: &Call,
+) -> Answer {
     let place = word(call.process, call.uaddr2);
     let old = words[place];
     words[place] = new_word(old, call.val3);
-    let mut ended = queue_at(state, call.process, call.uaddr);
-    ended.truncate(call.val as usize);
+    let here = queue_at(state, call.process, call.uaddr);
+    let mut ended = with_turns(order, state, &here, (0, call.val as usize));
     if compares_true(old, call.val3) {
         let mut there = queue_at(state, call.process, call.uaddr2);
         there.retain(|t| !ended.contains(t));
-        there.truncate(call.timeout as u32 as usize);
-        ended.extend(there);
+        ended.extend(with_turns(order, state, &there, (0, call.timeout as u32 as usize)));
     }
     end(after, &ended, 1)
 }

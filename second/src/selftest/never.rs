@@ -73,7 +73,7 @@ fn awake(state: &State) -> usize {
 /// sleepers.
 fn histories(checks: &mut Checks) {
     let mut lot = Lot::default();
-    for seed in 0..154 {
+    for seed in 0..196 {
         let mut rng = Rng::new(seed ^ 0x1212);
         let mut display = match seed % 7 {
             0 => Display::fresh(),

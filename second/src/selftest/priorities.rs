@@ -1,6 +1,6 @@
 //! Request (vi) of document 02: the event that sets a base priority, what the
-//! priority is kept through, that nothing else hangs on it, and that the other
-//! kinds of the log have the bytes that they had.
+//! priority is kept through, that nothing hangs on it but who is taken, and that the
+//! other kinds of the log have the bytes that they had.
 
 use std::collections::BTreeMap;
 
@@ -18,7 +18,7 @@ pub fn run(checks: &mut Checks) {
     table_rule(checks);
     kept(checks);
     only_by_its_event(checks);
-    no_effect(checks);
+    only_on_the_order(checks);
     bytes(checks);
 }
 
@@ -222,28 +222,40 @@ fn only_by_its_event(checks: &mut Checks) {
     }
 }
 
-/// A history goes the same way with all priorities 0, and with others.
-fn no_effect(checks: &mut Checks) {
+/// With other priorities each event reports the same, and leaves the same words and
+/// clock and as many sleepers at each word. What takes nobody by rank leaves the same
+/// tables, too.
+fn only_on_the_order(checks: &mut Checks) {
     for seed in 0..60 {
         let mut rng = Rng::new(seed ^ 0x6007);
-        let state = tables::sound(&mut rng);
-        let mut display = Display { state: state.clone(), ..Display::fresh() };
-        let mut none = Display { state: stripped(&state), ..Display::fresh() };
-        let mut others = display.clone();
-        others.state.threads.iter_mut().for_each(|t| t.priority = events::any_priority(&mut rng));
+        let mut display = Display { state: tables::sound(&mut rng), ..Display::fresh() };
         for _ in 0..200 {
             let event = events::next(&mut rng, &display.state, &display.words);
+            let mut none = Display { state: stripped(&display.state), ..display.clone() };
+            let mut others = display.clone();
+            tables::set_priorities(&mut rng, &mut others.state);
             let report = display.report(event);
-            if matches!(event, Event::SetPriority { .. }) {
-                continue;
-            }
             for other in [&mut none, &mut others] {
                 checks.equal("no effect", other.report(event), report);
-                let same = stripped(&other.state) == stripped(&display.state);
+                let same = match event {
+                    Event::Call(call) if ![0, 9].contains(&(call.op & !128)) => {
+                        queues(&other.state) == queues(&display.state)
+                    }
+                    _ => stripped(&other.state) == stripped(&display.state),
+                };
                 checks.holds("no effect, left", same && other.words == display.words);
             }
         }
     }
+}
+
+/// The clock, and how many sleep at each word of each process.
+fn queues(state: &State) -> (u64, BTreeMap<(usize, u32), u32>) {
+    let mut queues = BTreeMap::new();
+    for (number, thread) in state.threads.iter().enumerate().filter(|(_, t)| t.waiting) {
+        *queues.entry((number / 8, thread.uaddr)).or_insert(0) += 1;
+    }
+    (state.clock, queues)
 }
 
 /// A record of each kind, by hand, and a replay of the new one.

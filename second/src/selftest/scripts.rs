@@ -3,14 +3,13 @@
 use super::{declared, Checks};
 use crate::generate::{edges, random};
 use crate::model::State;
-use crate::script::{self, Asked, Machine, Record, Script, MEMORY};
+use crate::script::{self, Machine, Record, Script, MEMORY};
 use crate::shorthand as s;
 
 pub fn run(checks: &mut Checks) {
     printing(checks);
     bad_scripts(checks);
     pokes(checks);
-    searches(checks);
     let edges = edges::script();
     holds_throughout(checks, "edges", &edges);
     checks.holds("edges are fixed", edges == edges::script());
@@ -58,7 +57,8 @@ fn bad_scripts(checks: &mut Checks) {
     {
         checks.equal("cut script", printed(&script.bytes[..cut]), want.into());
     }
-    for kind in [0, 6, 255] {
+    // The search of request (v) was S.
+    for kind in [0, 6, b'S', 255] {
         checks.equal("unknown kind", printed(&[b'F', kind]), "bad script\n".into());
     }
     checks.equal("cut kind 5", printed(&[5, 0, 0]), "bad script\n".into());
@@ -69,25 +69,6 @@ fn bad_scripts(checks: &mut Checks) {
     }
     script.lend(MEMORY + 1);
     checks.equal("too much memory", printed(&script.bytes), "0\nbad script\n".into());
-}
-
-/// A search is 19 bytes, and takes any flag above 0 for one.
-fn searches(checks: &mut Checks) {
-    let mut script = Script::default();
-    script.events(&[s::wait_bitset((0, 1), 8, 0, 6), s::wait((0, 2), 8, 0)]);
-    let start = script.bytes.len();
-    for (process, flag, mask) in [(0, 0, 9), (0, 1, 9), (0, 255, 2), (8, 0, 0)] {
-        script.search(Asked { process, address: 8, flag, mask, cap: 1, second_cap: 258 });
-    }
-    script.add(Record::Poke { field: 1, index: 0, value: 3 });
-    script.search(Asked { process: 8, ..Asked::default() });
-    let bytes = [83, 0, 8, 0, 0, 0, 0, 9, 0, 0, 0, 1, 0, 0, 0, 2, 1, 0, 0];
-    checks.holds("bytes of a search", script.bytes[start..start + 19] == bytes);
-    let both = "looks 2 released 1 moved 2 left";
-    let want = format!("asleep\nasleep\n{both}\nlooks 2 released 2 moved left 1\n{both}\n-3\n-9\n");
-    checks.equal("searches", printed(&script.bytes), want);
-    let cut = printed(&script.bytes[..start + 18]);
-    checks.equal("cut search", cut, "asleep\nasleep\nbad script\n".into());
 }
 
 /// Pokes are cut to the field's width, and the index too.
@@ -110,7 +91,7 @@ fn pokes(checks: &mut Checks) {
 }
 
 /// Runs a made script: it is read to its end, is written back the same, and
-/// every event and every search does what the rules said the other way want.
+/// every event does what the rules said the other way want.
 fn holds_throughout(checks: &mut Checks, name: &str, bytes: &[u8]) {
     let mut machine = Machine::fresh();
     let mut place = 0;
@@ -131,18 +112,12 @@ fn holds_throughout(checks: &mut Checks, name: &str, bytes: &[u8]) {
     checks.holds(name, copy == bytes);
 }
 
-/// What a record that asks the kernel must print and leave.
+/// What an event must print and leave.
 fn wanted(machine: &Machine, record: &Record) -> Option<(String, State, Vec<u32>)> {
+    let Record::Event(event) = record else {
+        return None;
+    };
     let words = &machine.memory[..machine.lent];
-    match record {
-        Record::Event(event) => {
-            let (report, state, words) = declared::outcome(&machine.state, words, event);
-            Some((report.to_string(), state, words))
-        }
-        Record::Search(asked) => {
-            let line = declared::searched(&machine.state, &asked.search());
-            Some((line, machine.state.clone(), words.to_vec()))
-        }
-        _ => None,
-    }
+    let (report, state, words) = declared::outcome(&machine.state, words, event);
+    Some((report.to_string(), state, words))
 }

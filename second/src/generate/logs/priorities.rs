@@ -1,5 +1,8 @@
 //! Logs with priorities, of kind 5: that record by itself and among others, whole,
-//! cut and with a bad kind beside it, and its arguments at their edges.
+//! cut and with a bad kind beside it, and its arguments at their edges; and logs
+//! whose answers tell who was taken.
+
+mod order;
 
 use super::{damaged, filler, flagged, of, whole};
 use crate::generate::events::{self, EDGE_PRIORITIES};
@@ -19,6 +22,7 @@ pub fn edges() -> Vec<Vec<u8>> {
     logs.push([filler(events::next, PIECE - 2), across].concat());
     logs.extend((20..26).map(|seed| whole(&mut Rng::new(seed), 200)));
     logs.extend((500..650).map(|seed| damaged(&mut Rng::new(seed), 12)));
+    logs.extend(order::edges());
     logs
 }
 

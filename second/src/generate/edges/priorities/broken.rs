@@ -6,7 +6,7 @@ use super::set;
 use crate::generate::edges::{each_kind_by, sleepers};
 use crate::generate::tables;
 use crate::model::{Event, WORDS};
-use crate::script::{self, Asked, Record, Script, MEMORY};
+use crate::script::{self, Record, Script, MEMORY};
 use crate::shorthand::{self as s, Who};
 
 const WHO: Who = (0, 7);
@@ -36,11 +36,10 @@ fn sets() -> [Event; 7] {
     ]
 }
 
-/// Every kind of event, and a search; then what they have left.
+/// Every kind of event; then what they have left.
 fn each(script: &mut Script) {
     script.events(&each_kind_by(WHO));
     script.events(&sets());
-    script.search(Asked { address: 8, cap: 1, second_cap: 1, ..Asked::default() });
     script.dump();
 }
 

@@ -1,13 +1,13 @@
-//! That arrival alone says whom a wake or a requeue takes, and in which order
-//! sleepers stand, whatever their priorities.
+//! Seven sleepers at two words, and before them one of another process with the
+//! highest priority: every command with caps that end before, at and after the last
+//! sleeper of a word, and the events that take nobody by rank.
 
-use super::set;
+use super::{set, WHO};
 use crate::generate::tables;
 use crate::model::{Event, State, THREADS};
-use crate::script::{Asked, Script};
-use crate::shorthand::{self as s, Who};
+use crate::script::Script;
+use crate::shorthand as s;
 
-const WHO: Who = (0, 7);
 /// The priorities of seven sleepers, in the order in which they came, five at one
 /// word and two at another: rising, falling, equal, mixed, and the highest last or
 /// first.
@@ -28,9 +28,7 @@ pub fn add(script: &mut Script) {
             script.event(event);
             script.dump();
         }
-        searches(script, row);
     }
-    between_wakes(script);
     full_list(script);
 }
 
@@ -66,35 +64,7 @@ fn calls() -> Vec<Event> {
     calls
 }
 
-fn searches(script: &mut Script, row: &[u8; 7]) {
-    set(script, &lined_up(row));
-    for (cap, second_cap) in [(0, 0), (1, 0), (0, 1), (1, 1), (2, 2), (3, 1), (5, 0), (9, 9)] {
-        for flag in [0, 1] {
-            script.search(Asked { process: 0, address: 8, flag, mask: 2, cap, second_cap });
-        }
-        script.search(Asked { address: 16, cap, second_cap, ..Asked::default() });
-    }
-}
-
-/// Other priorities for the first who came and for the last between the wakes.
-fn between_wakes(script: &mut Script) {
-    script.fresh();
-    for index in [4, 2, 6, 0, 5] {
-        script.event(s::wait((0, index), 8, 0));
-    }
-    for (first, last) in [(0, 31), (31, 0), (1, 30), (9, 9), (0, 1)] {
-        script.events(&[s::set_priority((0, 5), last), s::set_priority((0, 4), first)]);
-        script.event(s::requeue(WHO, 8, 16, 0, 1));
-        script.dump();
-        script.event(s::wake(WHO, 8, 1));
-        script.dump();
-        script.event(s::requeue(WHO, 16, 8, 0, 1));
-        script.dump();
-    }
-}
-
-/// On a list of 63 with all priorities, each twice: a few are taken of each
-/// process.
+/// On a list of 63 with all priorities, each twice.
 fn full_list(script: &mut Script) {
     let mut state = tables::nearly_full(27);
     for number in 0..THREADS {
@@ -105,9 +75,4 @@ fn full_list(script: &mut Script) {
     script.dump();
     script.event(s::wake((3, 3), 12, 2));
     script.dump();
-    for process in 0..8 {
-        for (cap, second_cap) in [(1, 0), (2, 1), (9, 9)] {
-            script.search(Asked { process, address: 8, cap, second_cap, ..Asked::default() });
-        }
-    }
 }

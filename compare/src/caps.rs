@@ -1,5 +1,5 @@
-//! How the searches of request (v) of document 02 ended, told from the tables
-//! before and after a call: so that a run knows which ends it has tried.
+//! How the caps of wakes and requeues were used up, told from the tables before and
+//! after a call: so that a run knows which ends it has tried.
 
 use second::bytes::u32_at;
 use second::layout::{COUNT, LIST, UADDR, WAITING};
@@ -13,12 +13,12 @@ use crate::tally::Kind;
 /// The most ends that a command has.
 pub const ENDS: usize = 5;
 
-/// The ends of a command's search, each with its place.
+/// The ends that a command can come to, each with its place.
 pub fn ends(kind: Kind) -> &'static [&'static str] {
     match kind {
         "WAKE" | "WAKE_BITSET" => &[
-            "cap reached before the list's end",
-            "cap reached by the list's last entry",
+            "cap reached, some left at the word",
+            "cap reached, nobody left at the word",
             "cap not reached, some released",
             "cap above 0, nobody released from a list with sleepers",
             "cap 0 where threads sleep",
@@ -38,8 +38,6 @@ struct Taken {
     first: u32,
     second: u32,
     moved: u32,
-    /// The place, from 1, of the last of them.
-    place: u8,
 }
 
 impl Taken {
@@ -53,16 +51,15 @@ impl Taken {
                 true if was == call.uaddr => taken.first += 1,
                 true => taken.second += 1,
                 false if was != is => taken.moved += 1,
-                false => continue,
+                false => {}
             }
-            taken.place = place + 1;
         }
         taken
     }
 }
 
-/// How the search of a call that was answered with a count ended, by its place
-/// among the ends of its command.
+/// How a call that was answered with a count used up its caps, by the place among
+/// the ends of its command.
 pub fn end(call: &Call, before: &[u8], after: &[u8]) -> Option<usize> {
     let command = call.op & !PRIVATE_BIT;
     if matches!(command, WAIT | WAIT_BITSET) {
@@ -79,9 +76,10 @@ pub fn end(call: &Call, before: &[u8], after: &[u8]) -> Option<usize> {
 }
 
 fn end_of_wake(call: &Call, before: &[u8], taken: Taken) -> Option<usize> {
+    let asleep = asleep_at(before, call.process, call.uaddr);
     match (taken.first == call.val, taken.first) {
-        (true, 0) => (asleep_at(before, call.process, call.uaddr) > 0).then_some(4),
-        (true, _) => Some((taken.place == before[COUNT]) as usize),
+        (true, 0) => (asleep > 0).then_some(4),
+        (true, first) => Some((first == asleep) as usize),
         (false, 0) => (before[COUNT] > 0).then_some(3),
         (false, _) => Some(2),
     }
@@ -90,7 +88,7 @@ fn end_of_wake(call: &Call, before: &[u8], taken: Taken) -> Option<usize> {
 /// Of requeues with both caps above 0 that find somebody.
 fn end_of_requeue(call: &Call, taken: Taken) -> Option<usize> {
     let second_cap = call.timeout as u32;
-    if call.val == 0 || second_cap == 0 || taken.place == 0 {
+    if call.val == 0 || second_cap == 0 || taken.first + taken.moved == 0 {
         return None;
     }
     let reached = [taken.first == call.val, taken.moved == second_cap];
