@@ -1,9 +1,8 @@
 /*
  * Times the library against plain.c and tuned.c on the same events: many short batches, the sides by turns, each batch on tables
  * that were copied into place just before, outside the time. Prints the median time of a call and the median ratios; first of the
- * functions that answer a number alone, then (not of the searches) of those that also write a report. With an older library beside
- * it, that is one more side, by its numbers alone both times, with a dash where it lacks the function. It can also make each call
- * of the searches once, for callgrind.
+ * functions that answer a number alone, then of those that also write a report. With an older library beside it, that is one more
+ * side, by its numbers alone both times, with a dash where it lacks the function. It can also make each call once, for callgrind.
  */
 #define _GNU_SOURCE
 #include "kinds.h"
@@ -76,14 +75,23 @@ struct side {
     uint32_t words[VRADOMIL_WORDS];
 };
 
-/* What one line is of: a kind, with so many sleepers. */
-struct cell {
-    const struct suite *suite;
-    int kind, sleepers;
+/* The fills of the kinds that take sleepers by priority, and of the others, to whom priorities are all the same. */
+static const struct fill taking_fills[] = {
+    {1, 1, false}, {1, 1, true},
+    {32, 1, false}, {32, 1, true}, {32, 4, false}, {32, 4, true}, {32, 7, false}, {32, 7, true},
+    {63, 1, false}, {63, 1, true}, {63, 4, false}, {63, 4, true}, {63, 7, false}, {63, 7, true},
 };
-enum { FILLS = 4, MOST_CELLS = MOST_KINDS * FILLS };
+static const struct fill other_fills[] = {{0, 0, true}, {1, 1, true}, {32, 3, true}, {63, 3, true}};
+enum { MOST_FILLS = sizeof taking_fills / sizeof *taking_fills, MOST_CELLS = KINDS * MOST_FILLS };
+
+/* What one line is of. */
+struct cell {
+    int kind;
+    const struct fill *fill;
+};
 
 static size_t batches = BATCHES; /* how many are run by turns */
+static bool by_arrival[SIDES];   /* which sides are from before request (vii) */
 static struct sample samples[SAMPLES];
 static struct side sides[SIDES];
 
@@ -167,32 +175,59 @@ static double run_batch(const struct kernel *k, struct side *s, const struct sam
 
 static void fail(const struct kind *kind, int side, const char *what)
 {
-    printf("bench: %s: %s differs from the library, or from the kind, in %s\n", kind->name, kernels[side].name, what);
+    printf("bench: %s: %s differs from plain, or from the kind, in %s\n", kind->name, kernels[side].name, what);
     exit(1);
 }
 
 /*
- * Each side must have answered and reported as the library, as the kind says, and left the same bytes; the priorities too where an
- * older library was not lent them, for no event that it has changes one.
+ * Each side must have answered and reported as plain.c, as the kind says, and left the same bytes; the priorities too where an
+ * older library was not lent them, for no event that it has changes one. One that takes sleepers by arrival must still have taken
+ * as many, and the same ones in the same order if priorities are equal.
  */
-static void check(const struct kind *kind, bool report)
+static void check(const struct cell *cell, bool report)
 {
-    const struct side *library = &sides[LIBRARY];
+    const struct side *plain = &sides[PLAIN];
+    const struct kind *kind = &kinds[cell->kind];
     for (int side = 0; side < SIDES; side++) {
         if (!takes_part(side))
             continue;
         uint8_t reason = report && kernels[side].call_report != NULL ? kind->reason : STALE;
         for (size_t i = 0; i < BATCH; i++) {
             int64_t answer = sides[side].answers[i];
-            if (answer != library->answers[i] || answer < kind->least || answer > kind->most)
+            if (answer != plain->answers[i] || answer < kind->least || answer > kind->most)
                 fail(kind, side, "an answer");
             if (sides[side].reports[i].reason != reason)
                 fail(kind, side, "a reason");
         }
-        if (memcmp(sides[side].tables, library->tables, sizeof library->tables) != 0)
+        bool others = by_arrival[side] && kind->takes && cell->fill->mixed;
+        if (!others && memcmp(sides[side].tables, plain->tables, sizeof plain->tables) != 0)
             fail(kind, side, "the tables");
-        if (memcmp(sides[side].words, library->words, sizeof library->words) != 0)
+        if (memcmp(sides[side].words, plain->words, sizeof plain->words) != 0)
             fail(kind, side, "the words");
+    }
+}
+
+/* Whether a side wakes the first of two sleepers at a word, and not the second, whose priority is higher. */
+static bool wakes_first(const struct kernel *k)
+{
+    static struct vradomil_tables t;
+    static uint8_t words[VRADOMIL_WORDS_BYTES];
+    uint8_t *bytes = (uint8_t *)&t;
+    plain_fresh(bytes, sizeof t);
+    for (uint8_t index = 1; index <= 2; index++) {
+        k->call(bytes, tables_length(k), words, sizeof words, 0, index, VRADOMIL_WAIT, 0, 0, 0, 0, 0, 0);
+        t.priority[index] = index;
+    }
+    k->call(bytes, tables_length(k), words, sizeof words, 0, 0, VRADOMIL_WAKE, 0, 1, 0, 0, 0, 0);
+    return !t.waiting[1];
+}
+
+static void find_by_arrival(void)
+{
+    for (int side = 0; side < SIDES; side++) {
+        by_arrival[side] = wakes_first(&kernels[side]);
+        if (by_arrival[side])
+            printf("%s takes sleepers by arrival: whom it took of mixed priorities is not compared.\n", kernels[side].name);
     }
 }
 
@@ -222,7 +257,7 @@ static double timer_cost(void)
 static void prepare(const struct cell *cell)
 {
     for (size_t i = 0; i < SAMPLES; i++)
-        make_sample(&samples[i], cell->suite, cell->kind, cell->sleepers);
+        make_sample(&samples[i], cell->kind, cell->fill);
     for (int side = 0; side < SIDES; side++)
         for (size_t i = 0; i < VRADOMIL_WORDS; i++)
             sides[side].words[i] = WORD_VALUE;
@@ -237,7 +272,17 @@ static void run_round(const struct cell *cell, size_t round, bool report, double
         size_t side = (round + turn * step) % SIDES;
         times[side] = takes_part(side) ? run_batch(&kernels[side], &sides[side], first, report, timer) : NAN;
     }
-    check(&cell->suite->kinds[cell->kind], report);
+    check(cell, report);
+}
+
+/* The kind, how many sleep in all and at the word, and how the priorities are; dashes for the last two where they don't matter. */
+static void print_cell(const struct cell *cell)
+{
+    printf("%-24s %8d", kinds[cell->kind].name, cell->fill->sleepers);
+    if (kinds[cell->kind].takes)
+        printf(" %5d %10s", cell->fill->there, cell->fill->mixed ? "mixed" : "equal");
+    else
+        printf(" %5s %10s", "-", "-");
 }
 
 /* In its column, or a dash. */
@@ -262,7 +307,7 @@ static void measure(const struct cell *cell, bool report, double timer, double o
             ratios[side][round] = took[LIBRARY] / took[side];
         }
     }
-    printf("%-24s %8d", cell->suite->kinds[cell->kind].name, cell->sleepers);
+    print_cell(cell);
     for (int side = 0; side < SIDES; side++)
         print_figure(median(times[side], ROUNDS), 10, 1);
     for (int side = 0; side < SIDES; side++) {
@@ -275,7 +320,7 @@ static void measure(const struct cell *cell, bool report, double timer, double o
 
 static void headings(void)
 {
-    printf("%-24s %8s", "event", "sleepers");
+    printf("%-24s %8s %5s %10s", "event", "sleepers", "there", "priorities");
     for (int side = 0; side < SIDES; side++)
         printf(" %7s ns", kernels[side].name);
     for (int side = 0; side < SIDES; side++)
@@ -284,24 +329,26 @@ static void headings(void)
     printf("\n");
 }
 
-/* All kinds with all fills; says how many. */
-static size_t list_cells(const struct suite *suite, struct cell cells[MOST_CELLS])
+/* All kinds with all their fills; says how many. */
+static size_t list_cells(struct cell cells[MOST_CELLS])
 {
-    static const int sleepers[FILLS] = {0, 1, 32, 63};
     size_t n = 0;
-    for (int kind = 0; kind < suite->count; kind++)
-        for (size_t k = 0; k < FILLS; k++)
-            if (sleepers[k] >= suite->kinds[kind].fewest)
-                cells[n++] = (struct cell){suite, kind, sleepers[k]};
+    for (int kind = 0; kind < KINDS; kind++) {
+        const struct fill *fills = kinds[kind].takes ? taking_fills : other_fills;
+        size_t count = kinds[kind].takes ? sizeof taking_fills / sizeof *fills : sizeof other_fills / sizeof *fills;
+        for (size_t k = 0; k < count; k++)
+            if (fills[k].sleepers >= kinds[kind].fewest)
+                cells[n++] = (struct cell){kind, &fills[k]};
+    }
     return n;
 }
 
 /* A line for each cell, and a last line over all of them. */
-static void measure_all(const struct suite *suite, const char *title, bool report, double timer)
+static void measure_all(const char *title, bool report, double timer)
 {
     struct cell cells[MOST_CELLS];
     double over[SIDES], all[SIDES][MOST_CELLS];
-    size_t n = list_cells(suite, cells), figures[SIDES] = {0};
+    size_t n = list_cells(cells), figures[SIDES] = {0};
     headings();
     for (size_t k = 0; k < n; k++) {
         measure(&cells[k], report, timer, over);
@@ -318,24 +365,25 @@ static void measure_all(const struct suite *suite, const char *title, bool repor
     printf("\n");
 }
 
-/* Does nothing, but is called: bench/searches has callgrind write down here what it counted of a cell. */
+/* Does nothing, but is called: bench/count has callgrind write down here what it counted, before the first cell and after each. */
 __attribute__((noinline)) void counted(void)
 {
     __asm__ volatile("");
 }
 
-/* Makes each call once on all sides, and prints for each cell how many there were. */
-static void count_all(const struct suite *suite)
+/* Makes each call once on all sides, and prints each cell with how many calls there were. */
+static void count_all(void)
 {
     struct cell cells[MOST_CELLS];
     double times[SIDES];
-    size_t n = list_cells(suite, cells);
+    size_t n = list_cells(cells);
     for (size_t k = 0; k < n; k++) {
         prepare(&cells[k]);
         for (size_t round = 0; round < batches; round++)
             run_round(&cells[k], round, false, 0, times);
         counted();
-        printf("%zu\n", batches * BATCH);
+        print_cell(&cells[k]);
+        printf(" %10zu\n", batches * BATCH);
     }
 }
 
@@ -346,16 +394,17 @@ int main(int argc, char **argv)
     if (argc > 2)
         batches = strtoul(argv[2], NULL, 10);
     bool good = argc <= 3 && batches >= 1 && batches <= BATCHES;
-    if (good && strcmp(what, "events") == 0) {
-        measure_all(&events, "numbers:", false, timer);
+    if (good && strcmp(what, "time") == 0) {
+        find_by_arrival();
+        measure_all("numbers:", false, timer);
         printf("\n");
-        measure_all(&events, "reports:", true, timer);
-    } else if (good && strcmp(what, "searches") == 0) {
-        measure_all(&searches, "searches:", false, timer);
+        measure_all("reports:", true, timer);
     } else if (good && strcmp(what, "count") == 0) {
-        count_all(&searches);
+        find_by_arrival();
+        counted();
+        count_all();
     } else {
-        fprintf(stderr, "usage: bench events|searches|count [BATCHES], 1 to %d\n", BATCHES);
+        fprintf(stderr, "usage: bench time|count [BATCHES], 1 to %d\n", BATCHES);
         return 2;
     }
     return 0;

@@ -16,17 +16,6 @@
 
 typedef struct vradomil_tables tables_t;
 
-struct requeued {
-    int32_t released, moved;
-};
-
-/* Ends the first cap sleeps at a word whose mask shares a bit; says how many. */
-static inline int32_t release(tables_t *t, size_t process, uint32_t uaddr, uint32_t mask, uint32_t cap);
-
-/* Ends the first cap sleeps at a word; the next, up to cap2, go to uaddr2 and to the end of the list. */
-static inline struct requeued requeue_sleepers(tables_t *t, size_t process, uint32_t uaddr, uint32_t cap, uint32_t uaddr2,
-                                               uint32_t cap2);
-
 /* The arguments of a call that has passed the tests up to -16. */
 struct call {
     tables_t *t;
@@ -41,7 +30,18 @@ struct call {
     uint32_t uaddr2;
     uint32_t cap2;
     uint32_t val3;
+    uint8_t *places; /* where each thread of the process stands in the list, from 1, or 0; only tuned.c has it */
 };
+
+struct requeued {
+    int32_t released, moved;
+};
+
+/* Ends cap sleeps at a word whose mask shares a bit: those of higher priority, and the first among equals. Says how many. */
+static inline int32_t release(const struct call *c, uint32_t uaddr, uint32_t mask, uint32_t cap);
+
+/* Ends val sleeps at uaddr, in the same order; the next, up to cap2, go to uaddr2 and to the end of the list. */
+static inline struct requeued requeue_sleepers(const struct call *c);
 
 static inline uint32_t load(const uint8_t *word)
 {
@@ -93,7 +93,7 @@ static inline int32_t wake(const struct call *c, uint32_t mask)
         return VRADOMIL_EINVAL;
     if (c->uaddr >= WORD_AREA)
         return VRADOMIL_EFAULT;
-    return release(c->t, c->process, c->uaddr, mask, c->val);
+    return release(c, c->uaddr, mask, c->val);
 }
 
 /* -22 and -14 of the commands with two addresses and two caps; else 0. */
@@ -113,7 +113,7 @@ static inline int32_t requeue(const struct call *c, bool compare)
         return refusal;
     if (compare && load(c->area + c->uaddr) != c->val3)
         return VRADOMIL_EAGAIN;
-    struct requeued n = requeue_sleepers(c->t, c->process, c->uaddr, c->val, c->uaddr2, c->cap2);
+    struct requeued n = requeue_sleepers(c);
     return compare ? n.released + n.moved : n.released;
 }
 
@@ -171,10 +171,10 @@ static inline int32_t wake_op(const struct call *c)
     memcpy(c->area + c->uaddr2, &new, sizeof new);
     bool second = compares(cmp, (int32_t)old, signed_field(c->val3 & 4095));
     if (second && c->uaddr2 == c->uaddr)
-        return release(c->t, c->process, c->uaddr, ALL_ONES, c->val + c->cap2); /* both caps are below 2^31 */
-    int32_t released = release(c->t, c->process, c->uaddr, ALL_ONES, c->val);
+        return release(c, c->uaddr, ALL_ONES, c->val + c->cap2); /* both caps are below 2^31 */
+    int32_t released = release(c, c->uaddr, ALL_ONES, c->val);
     if (second)
-        released += release(c->t, c->process, c->uaddr2, ALL_ONES, c->cap2);
+        released += release(c, c->uaddr2, ALL_ONES, c->cap2);
     return released;
 }
 

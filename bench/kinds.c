@@ -1,29 +1,32 @@
 #include "samples.h"
 
-enum { REFUSED_11, REFUSED_22, REFUSED_CAP2, REFUSED_SAME, WAIT, WAKE_ONE, WAKE_ALL, WAKE_NOBODY, REQUEUE, WAKE_OP, STORED,
-       CLOCK_NONE, CLOCK_HALF, INTERRUPTED, SET_RUNNING, SET_ASLEEP, SET_REFUSED, QUERIED, KINDS };
+enum { REFUSED_11, REFUSED_22, REFUSED_CAP2, REFUSED_SAME, WAIT, WAKE_ONE, WAKE_ALL, WAKE_FEW, WAKE_NOBODY, REQUEUE, MOVE_ALL,
+       WAKE_OP, WAKE_OP_ONE_WORD, STORED, CLOCK_NONE, CLOCK_HALF, INTERRUPTED, SET_RUNNING, SET_ASLEEP, SET_REFUSED, QUERIED };
+_Static_assert(QUERIED == KINDS - 1, "all kinds");
 
-static const struct kind kinds[KINDS] = {
-    [REFUSED_11] = {"refused -11", 0, -11, -11},
-    [REFUSED_22] = {"refused -22", 0, -22, -22, VRADOMIL_REASON_UADDR},
-    [REFUSED_CAP2] = {"wake_op -22, second cap", 0, -22, -22, VRADOMIL_REASON_VAL2},
-    [REFUSED_SAME] = {"cmp_requeue -22, same", 0, -22, -22, VRADOMIL_REASON_SAME_UADDR},
-    [WAIT] = {"wait sleeps", 0, VRADOMIL_ASLEEP, VRADOMIL_ASLEEP},
-    [WAKE_ONE] = {"wake of 1", 1, 1, 1},
-    [WAKE_ALL] = {"wake of all at a word", 1, 1, 7},
-    [WAKE_NOBODY] = {"wake nobody", 0, 0, 0},
-    [REQUEUE] = {"cmp_requeue 1 and all", 1, 1, 7},
-    [WAKE_OP] = {"wake_op 1 and 1", 1, 1, 2},
-    [STORED] = {"store", 0, 0, 0},
-    [CLOCK_NONE] = {"clock ends none", 0, 0, 0},
-    [CLOCK_HALF] = {"clock ends half", 1, 0, 63},
-    [INTERRUPTED] = {"interrupt of a sleeper", 1, 1, 1},
-    [SET_RUNNING] = {"set_priority, running", 0, 0, 0},
-    [SET_ASLEEP] = {"set_priority, asleep", 1, 0, 0},
-    [SET_REFUSED] = {"set_priority -22", 0, -22, -22, VRADOMIL_REASON_PRIORITY},
-    [QUERIED] = {"query", 0, 0, UINT32_MAX, STALE},
+const struct kind kinds[KINDS] = {
+    [REFUSED_11] = {"refused -11", false, 0, -11, -11},
+    [REFUSED_22] = {"refused -22", false, 0, -22, -22, VRADOMIL_REASON_UADDR},
+    [REFUSED_CAP2] = {"wake_op -22, second cap", false, 0, -22, -22, VRADOMIL_REASON_VAL2},
+    [REFUSED_SAME] = {"cmp_requeue -22, same", false, 0, -22, -22, VRADOMIL_REASON_SAME_UADDR},
+    [WAIT] = {"wait sleeps", false, 0, VRADOMIL_ASLEEP, VRADOMIL_ASLEEP},
+    [WAKE_ONE] = {"wake of 1", true, 1, 1, 1},
+    [WAKE_ALL] = {"wake of all at a word", true, 1, 1, 7},
+    [WAKE_FEW] = {"wake_bitset, few match", true, 1, 1, 2},
+    [WAKE_NOBODY] = {"wake nobody", false, 0, 0, 0},
+    [REQUEUE] = {"cmp_requeue 1 and all", true, 1, 1, 7},
+    [MOVE_ALL] = {"cmp_requeue 0 and all", true, 1, 1, 7},
+    [WAKE_OP] = {"wake_op 1 and 1", true, 1, 1, 2},
+    [WAKE_OP_ONE_WORD] = {"wake_op 1 and 1, 1 word", true, 1, 1, 2},
+    [STORED] = {"store", false, 0, 0, 0},
+    [CLOCK_NONE] = {"clock ends none", false, 0, 0, 0},
+    [CLOCK_HALF] = {"clock ends half", false, 1, 0, 63},
+    [INTERRUPTED] = {"interrupt of a sleeper", false, 1, 1, 1},
+    [SET_RUNNING] = {"set_priority, running", false, 0, 0, 0},
+    [SET_ASLEEP] = {"set_priority, asleep", false, 1, 0, 0},
+    [SET_REFUSED] = {"set_priority -22", false, 0, -22, -22, VRADOMIL_REASON_PRIORITY},
+    [QUERIED] = {"query", false, 0, 0, UINT32_MAX, STALE},
 };
-_Static_assert(sizeof kinds / sizeof *kinds <= MOST_KINDS, "not too many for a suite");
 
 static struct event make_set_priority(uint8_t thread, uint64_t priority)
 {
@@ -52,7 +55,15 @@ static struct event make_other(const struct vradomil_tables *t, int kind, uint8_
     }
 }
 
-static struct event make_event(struct vradomil_tables *t, int kind, uint8_t caller)
+/* Of one sleeper at the word one matches, of four one, of seven two. */
+static struct event make_wake_few(struct vradomil_tables *t, uint8_t caller, uint64_t there)
+{
+    struct event e = make_call(caller, VRADOMIL_WAKE_BITSET, addresses[0], VRADOMIL_ALL);
+    e.val3 = make_masks(t, caller, there, (there + 3) / 4);
+    return e;
+}
+
+static struct event make_event(struct vradomil_tables *t, int kind, uint8_t caller, int there)
 {
     struct event e = make_call(caller, VRADOMIL_WAKE, addresses[0], 1);
     switch (kind) {
@@ -72,15 +83,24 @@ static struct event make_event(struct vradomil_tables *t, int kind, uint8_t call
         return e;
     case WAKE_ALL:
         return make_call(caller, VRADOMIL_WAKE, addresses[0], VRADOMIL_ALL);
+    case WAKE_FEW:
+        return make_wake_few(t, caller, (uint64_t)there);
     case WAKE_NOBODY:
         return make_call(caller, VRADOMIL_WAKE, addresses[3], VRADOMIL_ALL);
     case REQUEUE:
-        return make_requeue(caller, 1, VRADOMIL_ALL);
+    case MOVE_ALL:
+        return make_requeue(caller, kind == REQUEUE ? 1 : 0, VRADOMIL_ALL);
     case WAKE_OP:
-        return make_wake_op(caller, addresses[1]);
+    case WAKE_OP_ONE_WORD:
+        return make_wake_op(caller, addresses[kind == WAKE_OP ? 1 : 0]);
     default:
         return make_other(t, kind, caller);
     }
 }
 
-const struct suite events = {kinds, KINDS, make_event};
+void make_sample(struct sample *s, int kind, const struct fill *fill)
+{
+    uint8_t caller = (uint8_t)(draw() % VRADOMIL_THREADS);
+    make_tables(&s->tables, caller, fill);
+    s->event = make_event(&s->tables, kind, caller, fill->there);
+}

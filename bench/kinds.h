@@ -4,6 +4,8 @@
 
 #include "../include/vradomil.h"
 
+#include <stdbool.h>
+
 enum function { CALL, STORE, CLOCK, INTERRUPT, SET_PRIORITY, QUERY };
 
 struct event {
@@ -19,8 +21,16 @@ struct sample {
     struct event event;
 };
 
+/* How the tables of a case are filled. */
+struct fill {
+    int sleepers; /* of all processes */
+    int there;    /* how many of them wait at the caller's first word, the rest at others */
+    bool mixed;   /* priorities from 0 to 31, else all equal */
+};
+
 struct kind {
     const char *name;
+    bool takes;          /* it takes sleepers by priority: measured by how many wait there, and with equal and mixed priorities */
     int fewest;          /* it makes sense from so many sleepers on */
     int64_t least, most; /* the answers that it must get */
     uint8_t reason;      /* and the reason that is reported with them */
@@ -29,20 +39,13 @@ struct kind {
 /* What stands in a report before an event. A query has no report and leaves it. */
 enum { STALE = 255 };
 
-/* Kinds that are measured together. */
-struct suite {
-    const struct kind *kinds;
-    int count;
-    struct event (*make_event)(struct vradomil_tables *t, int kind, uint8_t caller); /* may change the tables */
-};
-
-enum { MOST_KINDS = 18 };
-extern const struct suite events, searches;
+enum { KINDS = 21 };
+extern const struct kind kinds[KINDS];
 
 /* The words that the events read hold this number. */
 enum { WORD_VALUE = -7 };
 
-/* One random case of a kind, with so many sleepers. */
-void make_sample(struct sample *s, const struct suite *suite, int kind, int sleepers);
+/* One random case of a kind. */
+void make_sample(struct sample *s, int kind, const struct fill *fill);
 
 #endif

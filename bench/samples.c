@@ -14,11 +14,14 @@ uint64_t draw(void)
     return x ^ x >> 31;
 }
 
-static void swap(uint8_t *a, uint8_t *b)
+static void shuffle(uint8_t *threads, int n)
 {
-    uint8_t kept = *a;
-    *a = *b;
-    *b = kept;
+    for (int k = n - 1; k > 0; k--) {
+        int other = (int)(draw() % (uint64_t)(k + 1));
+        uint8_t kept = threads[k];
+        threads[k] = threads[other];
+        threads[other] = kept;
+    }
 }
 
 /* Half of the sleepers have a deadline within 50, a quarter a late one, a quarter none. */
@@ -34,33 +37,50 @@ static void put_asleep(struct vradomil_tables *t, uint8_t thread, uint32_t uaddr
     t->list[t->count++] = thread;
 }
 
-/* Random tables. The caller runs; the first two sleepers, if there are as many, are of its process, one at each address. */
-static void make_tables(struct vradomil_tables *t, uint8_t caller, int sleepers)
+/* Those at the first word, one at the second and then any others are put asleep, and their order is drawn anew. */
+void make_tables(struct vradomil_tables *t, uint8_t caller, const struct fill *fill)
 {
-    uint8_t order[VRADOMIL_THREADS], first = (uint8_t)(caller ^ 1), second = (uint8_t)(caller ^ 2);
-    int n = 0;
+    uint8_t fellows[VRADOMIL_THREADS_PER_PROCESS], others[VRADOMIL_THREADS], priority = draw() % (VRADOMIL_MAX_PRIORITY + 1);
+    int n = 0, m = 0, asleep = 0, k;
     memset(t, 0, sizeof *t);
     memset(t->list, VRADOMIL_NO_ENTRY, sizeof t->list);
     t->clock = 1000 + draw() % 1000;
     for (uint8_t thread = 0; thread < VRADOMIL_THREADS; thread++) {
         t->last[thread] = draw() % 4;
-        t->priority[thread] = draw() % (VRADOMIL_MAX_PRIORITY + 1);
-        if (thread != caller && thread != first && thread != second)
-            order[n++] = thread;
+        t->priority[thread] = fill->mixed ? draw() % (VRADOMIL_MAX_PRIORITY + 1) : priority;
+        if (thread != caller && thread / 8 == caller / 8)
+            fellows[n++] = thread;
+        else if (thread != caller)
+            others[m++] = thread;
     }
-    for (int k = n - 1; k > 0; k--)
-        swap(&order[k], &order[draw() % (uint64_t)(k + 1)]);
-    /* The two come to random places among the first, so that they are taken. */
-    order[n++] = first;
-    order[n++] = second;
-    for (int k = 0; k < 2 && k < sleepers; k++)
-        swap(&order[n - 2 + k], &order[(uint64_t)k + draw() % (uint64_t)(sleepers - k)]);
-    if (sleepers > 1 && memchr(order, first, (size_t)sleepers) == NULL)
-        swap(memchr(order, first, (size_t)n), memchr(order, second, (size_t)n));
-    for (int k = 0; k < sleepers; k++) {
-        uint32_t uaddr = addresses[draw() % 3];
-        put_asleep(t, order[k], order[k] == first ? addresses[0] : order[k] == second ? addresses[1] : uaddr);
+    shuffle(fellows, n);
+    for (k = 0; k < fill->there; k++, asleep++)
+        put_asleep(t, fellows[k], addresses[0]);
+    if (k < n && asleep < fill->sleepers) {
+        put_asleep(t, fellows[k++], addresses[1]);
+        asleep++;
     }
+    while (k < n)
+        others[m++] = fellows[k++];
+    shuffle(others, m);
+    for (k = 0; asleep < fill->sleepers; k++, asleep++)
+        put_asleep(t, others[k], addresses[others[k] / 8 == caller / 8 ? 1 + draw() % 2 : draw() % 3]);
+    shuffle(t->list, asleep);
+}
+
+uint32_t make_masks(struct vradomil_tables *t, uint8_t caller, uint64_t there, uint64_t matching)
+{
+    const uint32_t shared = 1, other = UINT32_C(1) << 31;
+    uint32_t mask = ((uint32_t)draw() & ~other) | shared;
+    for (size_t place = 0; place < t->count; place++) {
+        uint8_t thread = t->list[place];
+        t->bitset[thread] = ((uint32_t)draw() & ~mask) | other;
+        if (thread / 8 == caller / 8 && t->uaddr[thread] == addresses[0] && draw() % there-- < matching) {
+            t->bitset[thread] |= shared;
+            matching--;
+        }
+    }
+    return mask;
 }
 
 struct event make_call(uint8_t caller, uint32_t op, uint32_t uaddr, uint32_t val)
@@ -82,11 +102,4 @@ struct event make_wake_op(uint8_t caller, uint32_t uaddr2)
     struct event e = make_call(caller, VRADOMIL_WAKE_OP, addresses[0], 1);
     e.val3 = VRADOMIL_WAKE_OP_VAL3(VRADOMIL_OP_SET, WORD_VALUE, VRADOMIL_CMP_LT, WORD_VALUE + 1), e.time = 1, e.uaddr2 = uaddr2;
     return e;
-}
-
-void make_sample(struct sample *s, const struct suite *suite, int kind, int sleepers)
-{
-    uint8_t caller = (uint8_t)(draw() % VRADOMIL_THREADS);
-    make_tables(&s->tables, caller, sleepers);
-    s->event = suite->make_event(&s->tables, kind, caller);
 }

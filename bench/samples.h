@@ -1,13 +1,22 @@
-/* What the kinds of every suite are made with. */
+/* What the kinds are made with. */
 #ifndef SAMPLES_H
 #define SAMPLES_H
 
 #include "kinds.h"
 
-/* Sleepers wait at the first three, of the caller's process one at least at the first and, if there are two, at the second. */
+/*
+ * Sleepers wait at the first three. Of the caller's process as many wait at the first as the fill says, the others at the second
+ * and the third; if there are any, one at least at the second.
+ */
 extern const uint32_t addresses[4];
 
 uint64_t draw(void);
+
+/* Random tables, in which the caller runs. */
+void make_tables(struct vradomil_tables *t, uint8_t caller, const struct fill *fill);
+
+/* Gives all sleepers other masks; says which mask so many matching ones of those there, at the caller's first word, share alone. */
+uint32_t make_masks(struct vradomil_tables *t, uint8_t caller, uint64_t there, uint64_t matching);
 
 struct event make_call(uint8_t caller, uint32_t op, uint32_t uaddr, uint32_t val);
 

@@ -1,6 +1,7 @@
 /*
  * The same kernel as plain.h's, tuned by hand: loops without a branch on what the tables hold, eight bytes at a time, the earliest
- * deadline kept from the check. A second measure, for what is left to gain; nothing else uses it.
+ * deadline and each sleeper's place in the list kept from the check. A second measure, for what is left to gain; nothing else uses
+ * it.
  *
  * Unlike the library it wants the tables at an address that is a multiple of 8.
  */
