@@ -37,7 +37,7 @@ extern "C" {
 /* What stands in the arrival list where no thread does. */
 #define VRADOMIL_NO_ENTRY 255
 
-/* The highest base priority. Every thread starts with 0. */
+/* The highest base priority, which is taken first. Every thread starts with 0. */
 #define VRADOMIL_MAX_PRIORITY 31
 
 /* The answer of a call that put its thread to sleep. No count is ever as high (theorem count-below-asleep). */
@@ -129,7 +129,7 @@ struct vradomil_tables {
     uint32_t uaddr[VRADOMIL_THREADS];          /* the address that a sleeper waits at */
     uint32_t bitset[VRADOMIL_THREADS];         /* its mask */
     uint64_t deadline[VRADOMIL_THREADS];       /* on the kernel's clock */
-    uint8_t priority[VRADOMIL_THREADS];        /* the base priority, 0 to 31 */
+    uint8_t priority[VRADOMIL_THREADS];        /* the base priority, 0 to 31; the highest is taken first */
 };
 
 /* What a report says beside the answer, laid over its bytes. Later versions may add fields, at the end only. */
@@ -171,10 +171,14 @@ int32_t vradomil_fresh(uint8_t *tables, size_t tables_len);
  *   WAIT_BITSET   the same, with mask val3 and an absolute timeout.
  *   WAKE          releases the first val sleepers at uaddr; 0 releases none.
  *   WAKE_BITSET   the same, of those whose mask shares a bit with val3.
- *   REQUEUE       releases the first val sleepers at uaddr and moves the next, up to the second cap, to uaddr2.
+ *   REQUEUE       releases the first val sleepers at uaddr and moves the next, up to the second cap, to uaddr2, where they arrive
+ *                 anew in the order in which they were taken.
  *   CMP_REQUEUE   the same if the word at uaddr is val3.
  *   WAKE_OP       changes the word at uaddr2 by val3, releases the first val sleepers at uaddr and, if the old word compares true,
  *                 the next ones at uaddr2, up to the second cap.
+ *
+ * The sleepers of a word are taken by higher base priority, and by arrival among equals; where all priorities are equal, in order
+ * of arrival.
  *
  * Answers VRADOMIL_ASLEEP if the caller now sleeps: the host must not run that thread until its byte in waiting is 0 again, and
  * then the call's value for the thread is vradomil_last_answer. Otherwise answers how many sleepers were released (CMP_REQUEUE:
@@ -210,7 +214,8 @@ int32_t vradomil_interrupt(uint8_t *tables, size_t tables_len, const uint8_t *wo
 
 /*
  * Sets the base priority of thread (process, index), asleep or not; 31 is the highest. It stays until it is set again: no other
- * event changes it. It is kept in the tables and has no effect yet on whom a wake takes.
+ * event changes it. Of the sleepers of a word, wakes and requeues take the highest first, as the priorities are when they come;
+ * to set it moves nobody in the arrival list.
  * Answers 0, or -6, -9, -3 or -22 (VRADOMIL_REASON_PRIORITY: above 31), and then changes nothing.
  */
 int32_t vradomil_set_priority(uint8_t *tables, size_t tables_len, const uint8_t *words, size_t words_len, uint8_t process,

@@ -11,8 +11,9 @@
 
 enum { TICKS = 50, TICK = 10, FLOOD_PER_TICK = 200 };
 
-/* The base priorities of each process's threads. The library keeps them; whom a wake takes doesn't depend on them yet. */
+/* The base priorities of each process's threads, but for one: of the sleepers at a word a wake takes the highest first. */
 enum { CAMERA_PRIORITY = 0, MAP_PRIORITY = 10, SECTIONS_PRIORITY = 20, STOP_KEY_PRIORITY = VRADOMIL_MAX_PRIORITY };
+enum { LOGGER = 2, LOGGER_PRIORITY = 0 };
 
 static void spawn_all(struct host *h)
 {
@@ -23,6 +24,7 @@ static void spawn_all(struct host *h)
         host_spawn(h, SECTIONS, index, section_worker);
     host_spawn(h, STOP_KEY, 0, stop_key);
     host_spawn(h, STOP_KEY, 1, key_presser);
+    host_spawn(h, STOP_KEY, LOGGER, key_logger);
 }
 
 static void set_priorities(struct host *h)
@@ -36,6 +38,7 @@ static void set_priorities(struct host *h)
     for (uint8_t process = CAMERA; process <= STOP_KEY; process++)
         for (uint8_t index = 0; index < VRADOMIL_THREADS_PER_PROCESS; index++)
             host_set_priority(h, process, index, priorities[process]);
+    host_set_priority(h, STOP_KEY, LOGGER, LOGGER_PRIORITY);
 }
 
 static void run(struct host *h, struct flood *flood)

@@ -5,7 +5,7 @@
 /* Addresses of futex words and shared numbers; each process has its own. */
 enum { MAP_MUTEX = 0, MAP_COND = 4, MAP_TILES = 8 };
 enum { SECTIONS_MUTEX = 0 };
-enum { KEY = 0, PRESSER_NAP = 4 };
+enum { KEY = 0, PRESSER_NAP = 4, LOGGER_NAP = 8 };
 
 /* Sleeps for a time: a wait at a word that nobody wakes. */
 static void nap(struct host *h, uint32_t word, uint64_t time)
@@ -92,4 +92,18 @@ void key_presser(struct host *h)
         int32_t woken = futex(h, (struct futex){.op = VRADOMIL_WAKE, .uaddr = KEY, .val = 1});
         say(h, "presses the key, wakes %d", (int)woken);
     }
+}
+
+/* Waits for the key, too, from before the stop key naps there: it arrived first, and has the lower priority. */
+void key_logger(struct host *h)
+{
+    nap(h, LOGGER_NAP, 55);
+    say(h, "waits for the key, to log it, until 200");
+    int32_t answer = futex(h, (struct futex){.op = VRADOMIL_WAIT_BITSET,
+                                             .uaddr = KEY,
+                                             .val = 0,
+                                             .val3 = UINT32_MAX,
+                                             .timed = true,
+                                             .timeout = 200});
+    say(h, "answer %d: %s", (int)answer, answer == VRADOMIL_ETIMEDOUT ? "the stop key went first" : "logs the key");
 }

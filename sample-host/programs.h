@@ -4,7 +4,7 @@
 
 #include "host.h"
 
-program_t map_loader, map_painter, section_worker, stop_key, key_presser;
+program_t map_loader, map_painter, section_worker, stop_key, key_presser, key_logger;
 
 /* How often each painter and each section worker does its work, and the words that count it. */
 enum { ROUNDS = 2, PAINTERS = 3, WORKERS = 3 };
