@@ -122,6 +122,8 @@ pub const LIST_BREAKS: &[Break] = &[
     |s, _, running| s.list[0] = running as u8,
     // A thread listed twice, the set of listed threads still being right.
     |s, sleeper, _| append(s, sleeper as u8),
+    // A thread listed twice, and another sleeper not: as many are listed as wait.
+    |s, sleeper, _| s.list[(s.count as usize).max(2) - 1] = sleeper as u8,
     // A running thread listed besides all the waiting ones.
     |s, _, running| append(s, running as u8),
     |s, _, _| append(s, 200),
