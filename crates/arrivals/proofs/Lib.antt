@@ -1,5 +1,6 @@
 pub mod Flags
 pub mod Places
+pub mod Walking
 pub mod TakingOut
 pub mod Splitting
 pub mod Theorems

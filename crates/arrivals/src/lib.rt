@@ -45,7 +45,7 @@ pub struct Placed {
     pub place: [u8; THREADS],
 }
 
-// The table check calls it, and tail_ok, after its test of the count; by value the reader of a view does, too.
+// The table check by value calls it, and tail_ok, after its test of the count; the reader of a view does, too.
 pub fn places_in(list: [u8; THREADS], count: usize) -> Placed
     requires { ⌜ count ≤ threads ⌝ }
     ensures { λ r. ⌜ PlacedIn (take count list) (r .low) (r .place) ⌝ }
@@ -110,9 +110,8 @@ fn up_one(place: u8, out: u8) -> u8
     if out < place { place - 1 } else { place }
 }
 
-// The places once the entry at one of them is taken out. relisted calls it, and so does what takes entries out of the list where it lies
-// (changes::out_all).
-pub fn moved_up(place: [u8; THREADS], out: u8) -> [u8; THREADS]
+// The places once the entry at one of them is taken out.
+fn moved_up(place: [u8; THREADS], out: u8) -> [u8; THREADS]
     ensures { λ r. ⌜ MovedUp place out r ⌝ }
 {
     let mut next = place;
@@ -126,7 +125,7 @@ pub fn moved_up(place: [u8; THREADS], out: u8) -> [u8; THREADS]
 }
 
 // The list with n entries of another, from a place on, written behind its first count.
-pub fn joined(
+fn joined(
     list: [u8; THREADS],
     count: usize,
     others: [u8; THREADS],

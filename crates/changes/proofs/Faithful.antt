@@ -1,28 +1,34 @@
 -- The bytes of tables stand for these tables, where each number fits its field.
-use mathlib.Core.Path.{_≡_, refl, sym, ap, _∙_}
+use mathlib.Core.Path.{_≡_, refl, sym, ap, subst, _∙_}
 use mathlib.Core.Bool.{Bool, true, false}
 use mathlib.Core.List.{List, [], map, flatten}
-use Prim.Native.Nat.{ℕ, _+_, _*_, _^_, _≤_, _<_}
+use Prim.Native.Nat.{ℕ, zero, suc, _+_, _*_, _/_, _^_, _≤_, _<_}
 use native.Mathlib.Omega.{arith}
+use native.Mathlib.Nat.{pow-succ'}
 use lib.ListN.{length, take, drop, getD}
 use lib.Seq.{drop-cons, ext-getD}
 use lib.Dec.{eqb}
 use borrow.Author.Tests.{eq-eqb, leb-true, le-leb}
-use Rattle.lists.specs.Lists.{everyBelow, bit, tabulate}
+use Rattle.lists.specs.Lists.{elem, everyBelow, bit, tabulate}
 use Rattle.lists.specs.LittleEndian.{le, bytes, numberAt}
 use Rattle.lists.proofs.LittleEndian.{le-bytes}
-use Rattle.lists.proofs.Tests.{bit-le}
+use Rattle.lists.proofs.Tests.{cases, bit-le}
 use Rattle.lists.proofs.Count.{everyBelow-intro}
 use Rattle.lists.proofs.Tabulate.{length-tabulate, getD-tabulate}
 use Rattle.tables.specs.declared.State.{State}
 use Rattle.tables.specs.declared.Thread.{Thread}
+use Rattle.tables.specs.declared.LastAnswer.{LastAnswer}
 use Rattle.tables.specs.Sizes.{threads, wordBytes, maxPriority}
-use Rattle.tables.specs.Tables.{freshThread, threadOf}
-use Rattle.tables.proofs.Sound.{tables-sound, priority-kept}
+use Rattle.tables.specs.Tables.{freshThread, threadOf, ended, endIn, endSleeps, tablesOk}
+use Rattle.tables.proofs.Changes.{change-at}
+use Rattle.tables.proofs.Sound.{tables-sound, sound-tables, priority-kept}
+use Rattle.tables.proofs.Kept.{ending}
 use Rattle.layout.specs.Layout.{timeBytes, column, columns, lastByte, maxLast, lastOf, waitingByte, timedByte, tablesBytes, tablesAt, stateAt, threadAt, tablesSize, flagsOk, clockAt, waitingAt, timedAt, lastAt, uaddrAt, bitsetAt, deadlineAt, priorityAt}
 use Rattle.layout.proofs.Columns.{length-column, entry-read, before, get-column, column-read}
 use Rattle.layout.proofs.Exact.{sizes, last-low, last-back}
-use Rattle.changes.specs.Change.{Whole, Stands, Fits}
+use Rattle.layout.proofs.Reading.{clock-read, thread-read}
+use Rattle.layout.specs.Check.{Held}
+use Rattle.changes.specs.Change.{Whole, Stands, FitsThread, Fits}
 use Rattle.changes.proofs.Writing.{sized}
 use Rattle.changes.proofs.Standing.{whole, size-held, list-held, count-held}
 
@@ -30,22 +36,36 @@ waits : (x : Bool) → eqb (bit x) 1 ≡ x
 waits true = refl
 waits false = refl
 
+-- what is read of a number's bytes fits them
+le-low : (w v : ℕ) → le (bytes w v) < 256 ^ w
+le-low zero v = omega arith
+le-low (suc w) v = let ih = le-low w (v / 256) in rw (pow-succ' 256 w) (omega arith)
+
+module _ (s : State) (w : Whole s) (b : List ℕ) (is : b ≡ tablesBytes s) where
+  -- the bytes of a number of the j-th column, which holds v of each record
+  number-bytes : (j v at : ℕ) (f : Thread → ℕ) → before j sizes ≡ at → getD (columns s) j [] ≡ column v f (s .threads) → (i : ℕ) → i < threads
+      → (k : ℕ) → k ≡ at + v * i → v * i + v ≤ v * threads → take v (drop k b) ≡ bytes v (f (threadOf s i))
+  unfolding tablesBytes
+  number-bytes j v at f place col i low k here inside =
+      let long : length (getD (columns s) j []) ≡ v * threads = ap length col ∙ length-column v f (s .threads) ∙ ap (v *_) (w .records) in
+      let there : k ≡ before j (map length (columns s)) + v * i = here ∙ ap (_+ v * i) (sym place ∙ ap (before j) (sym (sized s w))) in
+      ap (λ l. take v (drop k l)) is
+      ∙ ap (λ n. take v (drop n (flatten (columns s)))) there
+      ∙ get-column (columns s) j (v * i) v (rw long inside) ∙ ap (λ c. take v (drop (v * i) c)) col
+      ∙ entry-read v f (s .threads) i freshThread (omega (arith, w .records))
+
+  clock-bytes : take timeBytes (drop clockAt b) ≡ bytes timeBytes (s .clock)
+  unfolding tablesBytes
+  clock-bytes = ap (λ l. take timeBytes (drop clockAt l)) is ∙ column-read (columns s) (sized s w) 0 clockAt timeBytes (bytes timeBytes (s .clock)) refl refl refl
+
 module _ (s : State) (b : List ℕ) (h : Stands s b) (fit : Fits s) where
   abbrev shape : Whole s
   shape = whole s (h .sound)
 
-  -- a number of the j-th column, which holds w bytes of each record
   number-read : (j w at : ℕ) (f : Thread → ℕ) → before j sizes ≡ at → getD (columns s) j [] ≡ column w f (s .threads) → (i : ℕ) → i < threads
       → f (threadOf s i) < 256 ^ w → (k : ℕ) → k ≡ at + w * i → w * i + w ≤ w * threads → numberAt w k b ≡ f (threadOf s i)
-  unfolding tablesBytes
   number-read j w at f place is i low small k here inside =
-      let long : length (getD (columns s) j []) ≡ w * threads = ap length is ∙ length-column w f (s .threads) ∙ ap (w *_) (shape .records) in
-      let there : k ≡ before j (map length (columns s)) + w * i = here ∙ ap (_+ w * i) (sym place ∙ ap (before j) (sym (sized s shape))) in
-      ap (λ l. numberAt w k l) (h .bytes)
-      ∙ ap (λ n. numberAt w n (flatten (columns s))) there
-      ∙ ap le (get-column (columns s) j (w * i) w (rw long inside) ∙ ap (λ c. take w (drop (w * i) c)) is
-      ∙ entry-read w f (s .threads) i freshThread (omega (arith, shape .records)))
-      ∙ le-bytes w (f (threadOf s i)) small
+      ap le (number-bytes s shape b (h .bytes) j w at f place is i low k here inside) ∙ le-bytes w (f (threadOf s i)) small
 
   byte-read : (j at : ℕ) (f : Thread → ℕ) → before j sizes ≡ at → at + threads ≤ tablesSize → getD (columns s) j [] ≡ column 1 f (s .threads) → (i : ℕ) → i < threads
       → f (threadOf s i) < 256 ^ 1 → getD b (at + i) 0 ≡ f (threadOf s i)
@@ -80,10 +100,9 @@ module _ (s : State) (b : List ℕ) (h : Stands s b) (fit : Fits s) where
       λ j. record { waiting = waiting j; uaddr = uaddr j; bitset = bitset j; timed = timed j; deadline = deadline j; last = last j; priority = priority j }
 
   state-back : stateAt b ≡ s
-  unfolding stateAt tablesBytes
+  unfolding stateAt
   state-back =
-      let clock : numberAt timeBytes clockAt b ≡ s .clock =
-      ap (λ l. numberAt timeBytes clockAt l) (h .bytes) ∙ ap le (column-read (columns s) (sized s shape) 0 clockAt timeBytes (bytes timeBytes (s .clock)) refl refl refl) ∙ le-bytes timeBytes (s .clock) (fit .clock) in
+      let clock : numberAt timeBytes clockAt b ≡ s .clock = ap le (clock-bytes s shape b (h .bytes)) ∙ le-bytes timeBytes (s .clock) (fit .clock) in
       let records : tabulate threads (threadAt b) ≡ s .threads =
       ext-getD freshThread (tabulate threads (threadAt b)) (s .threads) (length-tabulate threads (threadAt b) ∙ sym (shape .records))
       (λ i l. let low : i < threads = omega (arith, length-tabulate threads (threadAt b)) in getD-tabulate threads (threadAt b) i freshThread low ∙ thread-back i low) in
@@ -104,3 +123,62 @@ module _ (s : State) (b : List ℕ) (h : Stands s b) (fit : Fits s) where
   pub tables-back : tablesAt b ≡ s
   unfolding tablesAt
   tables-back = rw (eq-eqb (length b) tablesSize (size-held s b h), flags-held) state-back
+
+  held-back : Held b
+  held-back =
+      record {
+        size = size-held s b h;
+        tables = tables-back ∙ sym state-back;
+        bytes = h .bytes ∙ ap tablesBytes (sym state-back);
+        sound = ap tablesOk state-back ∙ h .sound;
+      }
+
+-- Tables that their own bytes stand for: each number fits.
+module _ (b : List ℕ) (h : Held b) where
+  abbrev own : State
+  own = stateAt b
+
+  number-low : (j w at : ℕ) (f : Thread → ℕ) → before j sizes ≡ at → getD (columns own) j [] ≡ column w f (own .threads) → (i : ℕ) → i < threads
+      → w * i + w ≤ w * threads → f (threadOf own i) ≡ numberAt w (at + w * i) b → f (threadOf own i) < 256 ^ w
+  number-low j w at f place is i low inside read =
+      let v = f (threadOf own i) in
+      omega (arith, read, ap le (number-bytes own (whole own (h .sound)) b (h .bytes) j w at f place is i low (at + w * i) refl inside), le-low w v)
+
+  held-fits : Fits own
+  held-fits =
+      record {
+        clock = omega (arith, clock-read b, ap le (clock-bytes own (whole own (h .sound)) b (h .bytes)), le-low timeBytes (own .clock));
+        records = λ i low. record {
+          uaddr = number-low 6 wordBytes uaddrAt (λ q. q .uaddr) refl refl i low (omega arith) (ap (λ (r : Thread). r .uaddr) (thread-read b i low));
+          bitset = number-low 7 wordBytes bitsetAt (λ q. q .bitset) refl refl i low (omega arith) (ap (λ (r : Thread). r .bitset) (thread-read b i low));
+          deadline = number-low 8 timeBytes deadlineAt (λ q. q .deadline) refl refl i low (omega arith) (ap (λ (r : Thread). r .deadline) (thread-read b i low));
+        };
+      }
+
+-- sleeps that end leave numbers that fit
+ended-fits : (a : LastAnswer) (ts : List ℕ) (s : State) → length (s .threads) ≡ threads → Fits s → Fits (endSleeps a ts s)
+unfolding endIn
+ended-fits a ts s size fit =
+    record {
+      clock = fit .clock;
+      records = λ i low. subst FitsThread (sym (change-at (ended a) ts (s .threads) i freshThread (omega arith))) (cases (elem i ts)
+          (λ e. rw e (record { uaddr = omega arith; bitset = omega arith; deadline = omega arith }))
+          (λ e. rw e (fit .records i low)));
+    }
+
+-- bytes that were held, once sleeps have ended
+module _ (b : List ℕ) (h : Held b) (a : LastAnswer) (ts after : List ℕ) (is : after ≡ tablesBytes (endSleeps a ts (stateAt b))) where
+  abbrev s : State
+  s = endSleeps a ts (stateAt b)
+
+  stand : Stands s after
+  stand = record { bytes = is; sound = sound-tables s (ending a ts (stateAt b) (tables-sound (stateAt b) (h .sound))) }
+
+  fit : Fits s
+  fit = ended-fits a ts (stateAt b) (whole (stateAt b) (h .sound) .records) (held-fits b h)
+
+  pub ended-held : Held after
+  ended-held = held-back s after stand fit
+
+  pub ended-back : stateAt after ≡ s
+  ended-back = state-back s after stand fit

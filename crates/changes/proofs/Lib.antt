@@ -3,5 +3,7 @@ pub mod Standing
 pub mod Changing
 pub mod Shifting
 pub mod Leaving
-pub mod Taking
+pub mod Due
+pub mod Sifting
 pub mod Faithful
+pub mod OneByOne

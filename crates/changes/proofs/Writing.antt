@@ -190,12 +190,6 @@ module _ (s : State) (w : Whole s) where
   counted l b n c =
       put b (set (columns s) 2 l) _ c 1 0 countAt (bytes timeBytes n) refl (omega arith) (bytes timeBytes n) (sets-all (bytes timeBytes (s .count)) (bytes timeBytes n) refl) refl .stored
 
-  pub list-put : (list : List ℕ) (n : ℕ) → length list ≡ threads → (b : List ℕ) → b ≡ tablesBytes s
-      → sets (sets b listAt list) countAt (bytes timeBytes n) ≡ tablesBytes (record { clock = s .clock; threads = s .threads; list = list; count = n })
-  unfolding tablesBytes
-  list-put list n long b is =
-      counted list (sets b listAt list) n (entries-in list b long is)
-
   pub count-put : (n : ℕ) (b : List ℕ) → b ≡ tablesBytes s
       → sets b countAt (bytes timeBytes n) ≡ tablesBytes (record { clock = s .clock; threads = s .threads; list = s .list; count = n })
   unfolding tablesBytes

@@ -1,23 +1,24 @@
 // Changes: what a call reads of its process, and the changes of the tables, on their bytes where they lie. It stands on layout and views.
 ghost use mathlib.Core.Path.{_≡_};
-ghost use mathlib.Core.Bool.{false};
+ghost use mathlib.Core.Bool.{false, not};
 ghost use mathlib.Core.List.{[], _∷_, _++_};
-ghost use Prim.Native.Nat.{_+_, _-_, _≤_, _<_};
+ghost use Prim.Native.Nat.{_+_, _-_, _%_, _≤_, _<_};
 ghost use lib.ListN.{length, take, drop};
-ghost use Rattle.lists.specs.Lists.{bit, without, padTo};
-ghost use Rattle.arrivals.specs.Arrivals.{Listed};
-ghost use Rattle.tables.specs.declared.Change.the-variants.{End, MoveTo};
+ghost use lib.Dec.{ltb};
+ghost use Rattle.lists.specs.Lists.{all, bit};
+ghost use Rattle.lists.specs.LittleEndian.{numberAt};
+ghost use Rattle.tables.specs.declared.LastAnswer.the-variants.{Woken, TimedOut};
+ghost use Rattle.tables.specs.declared.Change.the-variants.{End};
 ghost use Rattle.tables.specs.Sizes.{processes, threads, noEntry};
 ghost use Rattle.tables.specs.Tables.{threadOf, arrivals, change, withThreads, withSleep, ended, asleepAt, fallAsleep, endSleeps, moveSleeps, setPriority};
-ghost use Rattle.tables.specs.Steps.{Numbers, Places, changedBy, Taking};
+ghost use Rattle.tables.specs.Steps.{Numbers, Places, changedBy, endFlagged};
 ghost use Rattle.views.specs.Views.{Views};
-ghost use Rattle.layout.specs.Layout.{lastByte, tablesSize, stateAt, tablesBytes};
+ghost use Rattle.layout.specs.Layout.{timeBytes, countAt, lastByte, tablesSize, threadAt, stateAt, tablesBytes};
 ghost use Rattle.layout.specs.Check.{Held};
-ghost use Rattle.changes.specs.Change.{atThread, onList, Writes, endSplit};
-use arrivals::Split;
+ghost use Rattle.changes.specs.Change.{atThread, onList, Writes, hasCome, isDue, Sifted, StandsAt, Lowered, MovesOne, ColumnOf, Leave};
 use arrivals::either;
 use arrivals::index_of;
-use arrivals::moved_up;
+use arrivals::one_if;
 use layout::BITSET_AT;
 use layout::COUNT_AT;
 use layout::DEADLINE_AT;
@@ -39,6 +40,21 @@ use tables::THREADS;
 use tables::stored_deadline;
 use views::View;
 
+// Of the places of all threads those of a process.
+pub fn column_of(place: [u8; THREADS], process: usize) -> [u16; State::THREADS_PER_PROCESS]
+    requires { ⌜ process < processes ⌝ }
+    ensures { λ r. ⌜ ColumnOf process place r ⌝ }
+{
+    let base = State::THREADS_PER_PROCESS * process;
+    let mut at = [0u16; State::THREADS_PER_PROCESS];
+    let mut i: usize = 0;
+    while i < State::THREADS_PER_PROCESS {
+        at[i] = place[base + i] as u16;
+        i += 1;
+    }
+    at
+}
+
 // What a call reads of its own process; place says where each thread stands in the arrival list. It is called on tables that keep the
 // rules.
 pub fn view_at(b: &[u8], process: usize, place: [u8; THREADS]) -> View
@@ -46,17 +62,17 @@ pub fn view_at(b: &[u8], process: usize, place: [u8; THREADS]) -> View
     ensures { λ r. ⌜ Views process (stateAt (now (b .entry))) r ⌝ }
 {
     let base = State::THREADS_PER_PROCESS * process;
-    let mut at = [0u8; State::THREADS_PER_PROCESS];
+    let mut at = [0u16; State::THREADS_PER_PROCESS];
     let mut uaddr = [0u32; State::THREADS_PER_PROCESS];
     let mut bitset = [0u32; State::THREADS_PER_PROCESS];
-    let mut priority = [0u8; State::THREADS_PER_PROCESS];
+    let mut priority = [0u16; State::THREADS_PER_PROCESS];
     let mut i: usize = 0;
     while i < State::THREADS_PER_PROCESS {
         let t = base + i;
-        at[i] = place[t];
+        at[i] = place[t] as u16;
         uaddr[i] = u32_at(b, UADDR_AT + WORD_SIZE * t);
         bitset[i] = u32_at(b, BITSET_AT + WORD_SIZE * t);
-        priority[i] = b[PRIORITY_AT + t];
+        priority[i] = b[PRIORITY_AT + t] as u16;
         i += 1;
     }
     View {
@@ -124,19 +140,6 @@ pub fn set_priority(b: &mut [u8], t: usize, priority: u8)
     b[PRIORITY_AT + t] = priority;
 }
 
-// The arrival list and its count.
-fn put_list(b: &mut [u8], list: [u8; THREADS], count: usize)
-    requires { ⌜ length (now b) ≡ tablesSize ⌝ }
-    ensures { λ _. ⌜ Writes (λ s. record { clock = s .clock; threads = s .threads; list = list; count = count }) (now (b .entry)) (now (b .exit)) ⌝ }
-{
-    let mut i: usize = 0;
-    while i < THREADS {
-        b[LIST_AT + i] = list[i];
-        i += 1;
-    }
-    put_u64(b, COUNT_AT, count as u64);
-}
-
 // The first n threads of ts run, with the answer.
 fn end_all(b: &mut [u8], ts: [u8; THREADS], n: usize, last: LastAnswer)
     requires { ⌜ (length (now b) ≡ tablesSize) × Numbers ts n ⌝ }
@@ -150,29 +153,76 @@ fn end_all(b: &mut [u8], ts: [u8; THREADS], n: usize, last: LastAnswer)
     }
 }
 
-// n threads of ts, from a place on, sleep at the address.
-fn move_all(b: &mut [u8], ts: [u8; THREADS], from: usize, n: usize, uaddr: u32)
-    requires { ⌜ (length (now b) ≡ tablesSize) × Numbers ts (from + n) ⌝ }
-    ensures { λ _. ⌜ Writes (λ s. withThreads (change (changedBy (MoveTo uaddr)) (take n (drop from ts)) (s .threads)) s) (now (b .entry)) (now (b .exit)) ⌝ }
+// Whether the deadline of a listed thread has come, on tables that keep the rules: there 0 is stored where there is none.
+fn is_due(b: &[u8], e: u8, time: u64) -> bool
+    requires { ⌜ length (now b) ≡ tablesSize ⌝ }
+    ensures { λ r. ⌜ r ≡ hasCome time (threadAt (now (b .entry)) (e % threads) .deadline) ⌝ }
 {
-    let mut i: usize = 0;
-    while i < n {
-        let x = index_of(ts[from + i]);
-        put_u32(b, UADDR_AT + WORD_SIZE * x, uaddr);
-        i += 1;
-    }
+    let d = u64_at(b, DEADLINE_AT + TIME_SIZE * index_of(e));
+    (d != 0) & (d <= time)
 }
 
-// Those of a split who pass run, with the answer, and the list is what is left; how many. A clock event calls it.
-pub fn end_split(b: &mut [u8], parts: Split, last: LastAnswer) -> u32
-    requires { ⌜ (length (now b) ≡ tablesSize) × Numbers (parts .taken) (parts .n) ⌝ }
-    ensures { λ r. ⌜ (r ≡ parts .n) × Writes (endSplit parts last) (now (b .entry)) (now (b .exit)) ⌝ }
+// Whether anybody's has.
+fn some_due(b: &[u8], time: u64) -> bool
+    requires { ⌜ Held (now b) ⌝ }
+    ensures { λ r. ⌜ r ≡ not (all (λ t. not (isDue time (stateAt (now (b .entry))) t)) (arrivals (stateAt (now (b .entry))))) ⌝ }
 {
-    let taken = parts.taken;
-    end_all(b, taken, parts.n, last);
-    let left = parts.left;
-    put_list(b, left, parts.count);
-    parts.n as u32
+    let count = u64_at(b, COUNT_AT) as usize;
+    let mut any = false;
+    let mut i: usize = 0;
+    while i < count {
+        let hit = is_due(b, b[LIST_AT + i], time);
+        any = any | hit;
+        i += 1;
+    }
+    any
+}
+
+// Those whose sleep ends, the first n entries.
+struct Ended {
+    who: [u8; THREADS],
+    n: usize,
+}
+
+// The list where it lies, without those whose deadline has come, and who they are. The filler is laid over each entry, and one that stays
+// is laid down again behind those that stay before it.
+fn sift(b: &mut [u8], time: u64) -> Ended
+    requires { ⌜ Held (now b) ⌝ }
+    ensures { λ r. ⌜ Sifted (isDue time (stateAt (now (b .entry)))) (stateAt (now (b .entry))) (r .who) (r .n) (now (b .exit)) ⌝ }
+{
+    let count = u64_at(b, COUNT_AT) as usize;
+    let mut who = [State::NO_ENTRY; THREADS];
+    let mut n: usize = 0;
+    let mut w: usize = 0;
+    let mut i: usize = 0;
+    while i < count {
+        let e = b[LIST_AT + i];
+        let hit = is_due(b, e, time);
+        b[LIST_AT + i] = State::NO_ENTRY;
+        b[LIST_AT + w] = either(hit, State::NO_ENTRY, e);
+        who[n] = e;
+        n += one_if(hit);
+        w += one_if(!hit);
+        i += 1;
+    }
+    put_u64(b, COUNT_AT, w as u64);
+    Ended { who: who, n: n }
+}
+
+// The sleepers whose deadline has come end their sleep; how many. A clock event calls it, on tables that keep the rules. Where there are
+// none, no byte is written.
+pub fn end_due(b: &mut [u8], time: u64) -> u32
+    requires { ⌜ Held (now b) ⌝ }
+    ensures { λ r. ⌜ (r ≡ endFlagged TimedOut (isDue time (stateAt (now (b .entry)))) (stateAt (now (b .entry))) .n) × (now (b .exit) ≡ tablesBytes (endFlagged TimedOut (isDue time (stateAt (now (b .entry)))) (stateAt (now (b .entry))) .state)) ⌝ }
+{
+    let some = some_due(b, time);
+    if !some {
+        return 0;
+    }
+    let ended = sift(b, time);
+    let who = ended.who;
+    end_all(b, who, ended.n, LastAnswer::TimedOut);
+    ended.n as u32
 }
 
 // Takes the entry at a place, from 1, out of the arrival list where it lies: those behind it move up. All entries are gone through, so
@@ -193,58 +243,78 @@ fn take_out(b: &mut [u8], place: u8)
     b[LIST_AT + THREADS - 1] = State::NO_ENTRY;
 }
 
-// The first n threads of ts are taken out of the list, by where each stands.
-fn out_all(b: &mut [u8], place: [u8; THREADS], ts: [u8; THREADS], n: usize)
-    requires { ⌜ Held (now b) × Listed (stateAt (now b) .list) (stateAt (now b) .count) place ts n ⌝ }
-    ensures { λ _. ⌜ now (b .exit) ≡ tablesBytes (onList (λ l. padTo threads noEntry (without (take n ts) (take (stateAt (now (b .entry)) .count) l))) (stateAt (now (b .entry)))) ⌝ }
+// A place once the entry at another is taken out.
+fn low_one(place: u16, out: u16) -> u16
+    ensures { λ r. ⌜ r ≡ place - bit (ltb out place) ⌝ }
 {
-    let mut at = place;
+    if out < place { place - 1 } else { place }
+}
+
+// The places of a process once the entry at one of them is taken out.
+fn lowered(place: [u16; State::THREADS_PER_PROCESS], out: u16) -> [u16; State::THREADS_PER_PROCESS]
+    ensures { λ r. ⌜ Lowered place out r ⌝ }
+{
+    let mut next = place;
     let mut i: usize = 0;
-    while i < n {
-        let x = index_of(ts[i]);
-        let out = at[x];
-        take_out(b, out);
-        let up = moved_up(at, out);
-        at = up;
+    while i < State::THREADS_PER_PROCESS {
+        let up = low_one(place[i], out);
+        next[i] = up;
         i += 1;
     }
+    next
 }
 
-// m threads of ts, from a place on, behind the first `end` entries of the list.
-fn join_all(b: &mut [u8], end: usize, ts: [u8; THREADS], from: usize, m: usize)
-    requires { ⌜ (length (now b) ≡ tablesSize) × ((end + m ≤ threads) × (from + m ≤ threads)) ⌝ }
-    ensures { λ _. ⌜ Writes (onList (λ l. take end l ++ (take m (drop from ts) ++ drop (end + m) l))) (now (b .entry)) (now (b .exit)) ⌝ }
+// A sleeper that stands at a place of the list runs, with the answer. This and the functions below that are public are called on tables
+// that keep the rules.
+pub fn end_one(b: &mut [u8], t: usize, place: u8, last: LastAnswer)
+    requires { ⌜ Held (now b) × StandsAt place t (arrivals (stateAt (now b))) ⌝ }
+    ensures { λ _. ⌜ now (b .exit) ≡ tablesBytes (endSleeps last (t ∷ []) (stateAt (now (b .entry)))) ⌝ }
 {
-    let mut j: usize = 0;
-    while j < m {
-        b[LIST_AT + end + j] = ts[from + j];
-        j += 1;
-    }
+    let count = u64_at(b, COUNT_AT);
+    take_out(b, place);
+    end_sleep(b, t, last);
+    put_u64(b, COUNT_AT, count - 1);
 }
 
-// The first n threads of ts end their sleep with the answer, the next m move to the address and to the end of the list; place says where
-// each thread stands in it. This and the function below are called on tables that keep the rules. Of nobody, no byte is written.
+// A sleeper that stands at a place of the list moves to the address and to the end of the list. The address may be any, so that of the
+// tables only the rules of the list are asked.
+fn move_one(b: &mut [u8], t: usize, place: u8, uaddr: u32)
+    requires { ⌜ (length (now b) ≡ tablesSize) × ((t < threads) × ((1 ≤ place) × ((place ≤ numberAt timeBytes countAt (now b)) × (numberAt timeBytes countAt (now b) ≤ threads)))) ⌝ }
+    ensures { λ _. ⌜ MovesOne uaddr t place (now (b .entry)) (now (b .exit)) ⌝ }
+{
+    let count = u64_at(b, COUNT_AT) as usize;
+    take_out(b, place);
+    put_u32(b, UADDR_AT + WORD_SIZE * t, uaddr);
+    b[LIST_AT + count - 1] = t as u8;
+}
+
+// The first n threads of ts end their sleep as woken, the next m move to the address and to the end of the list, one after the other; place
+// says where each thread of their process stands in it. Of nobody, no byte is written.
 pub fn take(
     b: &mut [u8],
-    place: [u8; THREADS],
-    ts: [u8; THREADS],
+    place: [u16; State::THREADS_PER_PROCESS],
+    ts: [u16; State::THREADS_PER_PROCESS],
     n: usize,
-    last: LastAnswer,
     m: usize,
     uaddr: u32,
 )
-    requires { ⌜ Held (now b) × Taking place ts (n + m) (stateAt (now b)) ⌝ }
-    ensures { λ _. ⌜ now (b .exit) ≡ tablesBytes (moveSleeps uaddr (take m (drop n ts)) (endSleeps last (take n ts) (stateAt (now (b .entry))))) ⌝ }
+    requires { ⌜ Held (now b) × Leave place ts (n + m) (stateAt (now b)) ⌝ }
+    ensures { λ _. ⌜ now (b .exit) ≡ tablesBytes (moveSleeps uaddr (take m (drop n ts)) (endSleeps Woken (take n ts) (stateAt (now (b .entry))))) ⌝ }
 {
-    if n + m == 0 {
-        return;
+    let mut at = place;
+    let mut i: usize = 0;
+    while i < n + m {
+        let x = ts[i] as usize;
+        let out = at[x % State::THREADS_PER_PROCESS];
+        if i < n {
+            end_one(b, x, out as u8, LastAnswer::Woken);
+        } else {
+            move_one(b, x, out as u8, uaddr);
+        }
+        let up = lowered(at, out);
+        at = up;
+        i += 1;
     }
-    let count = u64_at(b, COUNT_AT) as usize;
-    out_all(b, place, ts, n + m);
-    end_all(b, ts, n, last);
-    move_all(b, ts, n, m, uaddr);
-    join_all(b, count - (n + m), ts, n, m);
-    put_u64(b, COUNT_AT, (count - n) as u64);
 }
 
 // A running thread sleeps, and joins the end of the list, where there is room, since it is not there yet. It is called for a caller that

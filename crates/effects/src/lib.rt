@@ -2,8 +2,10 @@
 ghost use mathlib.Core.Path.{_≡_};
 ghost use mathlib.Core.Bool.{true, cond};
 ghost use Prim.Native.Nat.{_≤_, _<_};
-ghost use lib.ListN.{length};
-ghost use Rattle.tables.specs.Sizes.{processes, bytesPerProcess, memoryWords};
+ghost use lib.ListN.{length, take};
+ghost use lib.Dec.{ltb};
+ghost use Rattle.lists.specs.Lists.{all};
+ghost use Rattle.tables.specs.Sizes.{processes, threadsPerProcess, threads, bytesPerProcess, memoryWords};
 ghost use Rattle.tables.specs.Tables.{world, arrivals, tablesOk};
 ghost use Rattle.tables.specs.Steps.{Places};
 ghost use Rattle.rules.specs.declared.answer.Answer.the-variants.{Count};
@@ -53,17 +55,17 @@ fn view_of(s: State, process: usize, place: [u8; THREADS]) -> View
     ensures { λ r. ⌜ Views process s r ⌝ }
 {
     let base = State::THREADS_PER_PROCESS * process;
-    let mut at = [0u8; State::THREADS_PER_PROCESS];
+    let mut at = [0u16; State::THREADS_PER_PROCESS];
     let mut uaddr = [0u32; State::THREADS_PER_PROCESS];
     let mut bitset = [0u32; State::THREADS_PER_PROCESS];
-    let mut priority = [0u8; State::THREADS_PER_PROCESS];
+    let mut priority = [0u16; State::THREADS_PER_PROCESS];
     let mut i: usize = 0;
     while i < State::THREADS_PER_PROCESS {
         let t = s.threads[base + i];
-        at[i] = place[base + i];
+        at[i] = place[base + i] as u16;
         uaddr[i] = t.uaddr;
         bitset[i] = t.bitset;
-        priority[i] = t.priority;
+        priority[i] = t.priority as u16;
         i += 1;
     }
     View {
@@ -101,6 +103,20 @@ fn put_word(words: &mut [u32], c: Call, d: Plan)
     words[i] = d.word;
 }
 
+// The first n of some threads, as entries of a list.
+fn entries(ts: [u16; State::THREADS_PER_PROCESS], n: usize) -> [u8; THREADS]
+    requires { ⌜ (n ≤ threadsPerProcess) × (all (λ t. ltb t threads) (take n ts) ≡ true) ⌝ }
+    ensures { λ r. ⌜ take n r ≡ take n ts ⌝ }
+{
+    let mut list = [State::NO_ENTRY; THREADS];
+    let mut i: usize = 0;
+    while i < n {
+        list[i] = ts[i] as u8;
+        i += 1;
+    }
+    list
+}
+
 // A plan carried out.
 fn carry_out(s: State, words: &mut [u32], c: Call, place: [u8; THREADS], d: Plan) -> Answered
     requires { ⌜ (Granted c s (now words)) × (Places place (arrivals s) × Planned c (world s (now words)) d) ⌝ }
@@ -115,7 +131,8 @@ fn carry_out(s: State, words: &mut [u32], c: Call, place: [u8; THREADS], d: Plan
         };
     }
     put_word(words, c, d);
-    let taken = d.taken;
+    let who = d.taken;
+    let taken = entries(who, d.released + d.moved);
     let next = s.take(
         place,
         taken,

@@ -1,23 +1,22 @@
--- The passes over the bytes say that they stand for tables, that these keep the rules, and up to which time nobody is due.
+-- The passes over the bytes say that they stand for tables, and that these keep the rules.
 use mathlib.Core.Path.{_≡_, refl, sym, ap, _∙_}
 use mathlib.Core.Bool.{Bool, true, false, not, cond, _&&_, _||_, Bool·beq, and-assoc, and-comm, and-true, and-false, or-true}
-use mathlib.Core.List.{List, []}
+use mathlib.Core.List.{List}
 use Prim.Native.Nat.{ℕ, zero, suc, _+_, _≤_, _<_}
 use native.Mathlib.Omega.{arith}
 use lib.ListN.{length, drop, getD, length-drop}
 use lib.Seq.{length-take-le}
-use lib.Dec.{eqb, leb, ltb}
-use borrow.Author.Tests.{lt-leb, lt-ltb, ltb-true, eq-eqb, ne-eqb}
-use Rattle.lists.specs.Lists.{filter, everyBelow, countBelow}
+use lib.Dec.{eqb, leb}
+use borrow.Author.Tests.{lt-leb, eq-eqb, ne-eqb}
+use Rattle.lists.specs.Lists.{everyBelow, countBelow}
 use Rattle.lists.specs.LittleEndian.{Bytes}
 use Rattle.lists.proofs.Tests.{cases, and-left, and-right}
-use Rattle.lists.proofs.Filter.{filter-none}
-use Rattle.lists.proofs.Count.{everyBelow-intro, everyBelow-at, everyBelow-ext, everyBelow-and, countBelow-ext}
+use Rattle.lists.proofs.Count.{everyBelow-ext, everyBelow-and, countBelow-ext}
 use Rattle.lists.proofs.Tabulate.{length-tabulate, all-tabulate}
 use Rattle.tables.specs.declared.Thread.{Thread}
 use Rattle.tables.specs.Sizes.{threads}
 use Rattle.tables.specs.Editions.{present}
-use Rattle.tables.specs.Tables.{threadOf, arrivals, sizesOk, priorityOk, recordOk, recordsOk, tailOk, expired, tablesIn, tablesOk}
+use Rattle.tables.specs.Tables.{threadOf, arrivals, sizesOk, priorityOk, recordOk, recordsOk, tailOk, tablesIn, tablesOk}
 use Rattle.tables.specs.Steps.{placed}
 use Rattle.arrivals.specs.Arrivals.{PlacedIn}
 use Rattle.tables.proofs.Checked.{checked}
@@ -57,26 +56,6 @@ regroup true false p q g m n f r e = sym (and-false f)
 regroup true true p q g true true f r e = simp and-true (and-comm (p && q) g ∙ sym (and-assoc g p q) ∙ e)
 regroup true true p q g true false f r e = simp and-false (and-false (p && q))
 regroup true true p q g false n f r e = rw (and-false g) (and-false (p && q) ∙ sym (and-false f))
-
--- a time at which the deadlines keep their rule: they keep it at an earlier one, and up to it nobody is due
-earlier : (clock time : ℕ) (t : Bool) (d : ℕ) → clock ≤ time → timeOk time t d ≡ true → timeOk clock t d ≡ true
-earlier clock time true d h e = lt-ltb clock d (omega (arith, ltb-true time d e))
-earlier clock time false d h e = e
-
-not-due : (calm time : ℕ) (w t : Bool) (d : ℕ) → time ≤ calm → timeOk calm t d ≡ true → (w && t && leb d time) ≡ false
-not-due calm time true true d h e = lt-leb d time (omega (arith, ltb-true calm d e))
-not-due calm time true false d h e = refl
-not-due calm time false t d h e = refl
-
-pub times-earlier : (b : List ℕ) (clock time : ℕ) → clock ≤ time → everyBelow threads (timeFits time b) ≡ true → everyBelow threads (timeFits clock b) ≡ true
-times-earlier b clock time h e = everyBelow-intro threads (timeFits clock b)
-    (λ i l. earlier clock time (threadAt b i .timed) (threadAt b i .deadline) h (everyBelow-at threads (timeFits time b) e i l))
-
-none-due : (b : List ℕ) (calm time : ℕ) → time ≤ calm → everyBelow threads (timeFits calm b) ≡ true
-    → (t : ℕ) → t < threads → expired time (threadOf (stateAt b) t) ≡ false
-none-due b calm time h e t l =
-    let r = threadAt b t in
-    ap (expired time) (thread-read b t l) ∙ not-due calm time (r .waiting) (r .timed) (r .deadline) h (everyBelow-at threads (timeFits calm b) e t l)
 
 -- bytes of another length stand for no tables
 pub wrong-size : (b : List ℕ) → (length b ≡ tablesSize → ⊥) → tablesOk (tablesAt b) ≡ false
@@ -150,18 +129,12 @@ module _ (b : List ℕ) (size : length b ≡ tablesSize) where
         ∙ ap (λ x. everyBelow threads (flagsOk b) && x) all
         ∙ sym whole
 
-    pub told : Bytes b → (calm : ℕ) → (times ≡ true → everyBelow threads (timeFits calm b) ≡ true)
-        → Checked b (record { ok = low && tail && places && times && flags; place = place; calm = calm })
-    told h calm still =
-        let first : (low && tail && places && times && flags) ≡ true → (low && tail && places && times) ≡ true = λ e. and-left (low && tail && places && times) flags e in
+    pub told : Bytes b → Checked b (record { ok = low && tail && places && times && flags; place = place })
+    told h =
         let named : (low && tail && places && times && flags) ≡ true → low ≡ true =
-        λ e. and-left low tail (and-left (low && tail) places (and-left (low && tail && places) times (first e))) in
+        λ e. and-left low tail (and-left (low && tail) places (and-left (low && tail && places) times (and-left (low && tail && places && times) flags e))) in
         record {
           answer = passes;
           held = λ e. held h (sym passes ∙ e);
           places = λ e. list .places (named e);
-          calm = λ e time l.
-              let late = still (and-right (low && tail && places) times (first e)) in
-              filter-none (λ t. expired time (threadOf (stateAt b) t)) (λ t. ltb t threads) (λ t k. none-due b calm time l late t (ltb-true t threads k))
-              (arrivals (stateAt b)) (sym (list .named) ∙ named e);
         }

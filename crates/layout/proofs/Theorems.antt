@@ -1,13 +1,12 @@
--- What the check tells of bytes that pass: each sleeper stands at its place in the arrival list and nobody else has one, and up to the time
--- that is told a clock event ends nobody.
+-- What the check tells of bytes that pass: each sleeper stands at its place in the arrival list, and nobody else has one.
 use mathlib.Core.Path.{_≡_, ap, _∙_}
 use mathlib.Core.Bool.{true, false}
-use mathlib.Core.List.{List, []}
-use Prim.Native.Nat.{ℕ, _-_, _≤_, _<_}
+use mathlib.Core.List.{List}
+use Prim.Native.Nat.{ℕ, _-_, _<_}
 use lib.ListN.{getD}
 use Rattle.arrivals.proofs.Places.{place-absent, place-names}
 use Rattle.tables.specs.Sizes.{threads}
-use Rattle.tables.specs.Tables.{threadOf, arrivals, expiredSleepers}
+use Rattle.tables.specs.Tables.{threadOf, arrivals}
 use Rattle.tables.proofs.Sound.{Sound, tables-sound, listed-waiting, listed-below}
 use Rattle.layout.specs.declared.check.Seen.{Seen}
 use Rattle.layout.specs.Layout.{stateAt}
@@ -25,7 +24,3 @@ module _ (b : List ℕ) (r : Seen) (h : Checked b r) (passed : r .ok ≡ true) w
 
   pub seen-nowhere : (t : ℕ) → t < threads → threadOf (stateAt b) t .waiting ≡ false → getD (r .place) t 0 ≡ 0
   seen-nowhere t low w = h .places passed t low ∙ place-absent t (arrivals (stateAt b)) (listed-waiting (stateAt b) rules t ∙ w)
-
-  pub seen-calm : (time : ℕ) → time ≤ r .calm → expiredSleepers time (stateAt b) ≡ []
-  unfolding expiredSleepers
-  seen-calm time l = h .calm passed time l

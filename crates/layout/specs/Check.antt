@@ -1,15 +1,13 @@
 -- What the check of the bytes computes on the way, and what it tells.
 use mathlib.Core.Path.{_≡_}
 use mathlib.Core.Bool.{Bool, true, not, cond, _&&_, Bool·beq}
-use mathlib.Core.List.{List, []}
-use Prim.Native.Nat.{ℕ, _+_, _≤_}
+use mathlib.Core.List.{List}
+use Prim.Native.Nat.{ℕ, _+_}
 use lib.ListN.{length, getD}
 use lib.Dec.{eqb, leb, ltb}
-use Rattle.lists.specs.Lists.{filter, everyBelow}
-use Rattle.tables.specs.Sizes.{threads, bytesPerProcess}
-use Rattle.tables.specs.Tables.{threadOf, arrivals, aligned, priorityOk, expired, tablesOk}
+use Rattle.tables.specs.Sizes.{bytesPerProcess}
+use Rattle.tables.specs.Tables.{arrivals, aligned, priorityOk, tablesOk}
 use Rattle.tables.specs.Steps.{Places, placed}
-use Rattle.layout.specs.declared.check.Times.{Times}
 use Rattle.layout.specs.declared.check.Seen.{Seen}
 use Rattle.layout.specs.Layout.{maxLast, waitingAt, timedAt, lastAt, threadAt, stateAt, tablesBytes, tablesAt, tablesSize}
 
@@ -40,11 +38,6 @@ timeOk now timed due = cond timed (ltb now due) (eqb due 0)
 abbrev pub timeFits : ℕ → List ℕ → ℕ → Bool
 timeFits now b i = timeOk now (threadAt b i .timed) (threadAt b i .deadline)
 
--- whether the deadlines keep their rule at the clock, and if so a time at which they would keep it
-pub record TimesUntil (b : List ℕ) (clock : ℕ) (r : Times) : Type 0 where
-  pub answer : r .ok ≡ everyBelow threads (timeFits clock b)
-  pub later : r .ok ≡ true → everyBelow threads (timeFits (r .calm) b) ≡ true
-
 -- The bytes stand for these tables, which keep the rules.
 pub record Held (b : List ℕ) : Type 0 where
   pub size : length b ≡ tablesSize
@@ -52,10 +45,8 @@ pub record Held (b : List ℕ) : Type 0 where
   pub bytes : b ≡ tablesBytes (stateAt b)
   pub sound : tablesOk (stateAt b) ≡ true
 
--- What the check tells: whether the bytes stand for tables that keep the rules; and if they do, where each thread stands in the list, and a
--- time up to which nobody is due.
+-- What the check tells: whether the bytes stand for tables that keep the rules; and if they do, where each thread stands in the list.
 pub record Checked (b : List ℕ) (r : Seen) : Type 0 where
   pub answer : r .ok ≡ tablesOk (tablesAt b)
   pub held : r .ok ≡ true → Held b
   pub places : r .ok ≡ true → Places (r .place) (arrivals (stateAt b))
-  pub calm : r .ok ≡ true → (time : ℕ) → time ≤ r .calm → filter (λ t. expired time (threadOf (stateAt b) t)) (arrivals (stateAt b)) ≡ []

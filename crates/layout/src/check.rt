@@ -1,18 +1,20 @@
 // The table rules, on the bytes where they lie, in loops without a branch.
 ghost use mathlib.Core.Path.{_≡_};
-ghost use mathlib.Core.Bool.{_&&_};
-ghost use Prim.Native.Nat.{_+_, _*_};
-ghost use lib.ListN.{length};
+ghost use mathlib.Core.Bool.{cond, _&&_};
+ghost use Prim.Native.Nat.{_+_, _*_, _≤_};
+ghost use lib.ListN.{length, take, drop};
 ghost use lib.Dec.{eqb};
-ghost use Rattle.lists.specs.Lists.{everyBelow, countBelow};
-ghost use Rattle.tables.specs.Sizes.{threads, wordLimit};
-ghost use Rattle.layout.specs.Layout.{tablesSize};
-ghost use Rattle.layout.specs.Check.{flagsFit, agrees, waits, placeOk, placeFits, timeOk, timeFits, TimesUntil, Checked};
+ghost use Rattle.lists.specs.Lists.{all, everyBelow, countBelow};
+ghost use Rattle.tables.specs.Sizes.{threads, noEntry, wordLimit};
+ghost use Rattle.arrivals.specs.Arrivals.{PlacedIn};
+ghost use Rattle.layout.specs.Layout.{listAt, tablesSize};
+ghost use Rattle.layout.specs.Check.{flagsFit, agrees, waits, placeFits, timeOk, timeFits, Checked};
 use crate::BITSET_AT;
 use crate::CLOCK_AT;
 use crate::COUNT_AT;
 use crate::DEADLINE_AT;
 use crate::LAST_AT;
+use crate::LIST_AT;
 use crate::PRIORITY_AT;
 use crate::TABLES_SIZE;
 use crate::TIME_SIZE;
@@ -20,14 +22,14 @@ use crate::TIMED_AT;
 use crate::UADDR_AT;
 use crate::WAITING_AT;
 use crate::WORD_SIZE;
-use crate::read::list_at;
+use arrivals::Placed;
 use arrivals::either;
-use arrivals::places_in;
-use arrivals::tail_ok;
+use arrivals::index_of;
 use numbers::u32_at;
 use numbers::u64_at;
 use tables::MAX_PRIORITY;
 use tables::PROCESS_BYTES;
+use tables::State;
 use tables::THREADS;
 use tables::WORD_BYTES;
 
@@ -64,29 +66,71 @@ fn flags_ok(b: &[u8], place: [u8; THREADS], count: usize) -> bool
     ok & (n as usize == count)
 }
 
-// A sleeper has an address and a mask, and a running thread has none.
-fn place_ok(waiting: bool, uaddr: u32, bitset: u32) -> bool
-    ensures { λ r. ⌜ r ≡ placeOk waiting uaddr bitset ⌝ }
+// The address that a running thread has, and none of a sleeper: a leaf, so that the loop has no branch.
+fn if_runs(waits: bool, uaddr: u32) -> u32
+    ensures { λ r. ⌜ r ≡ cond waits 0 uaddr ⌝ }
 {
-    let masked = bitset != 0;
-    (uaddr % WORD_BYTES == 0)
-        & (uaddr < PROCESS_BYTES)
-        & (masked | (uaddr == 0))
-        & (masked == waiting)
+    if waits { 0 } else { uaddr }
 }
 
+// A sleeper has an address and a mask, and a running thread has none. The bits of all addresses are gathered, and those of the running
+// threads apart, and tested once: each address is aligned and below the limit, a power of two, exactly if all bits together are.
 fn places_ok(b: &[u8]) -> bool
     requires { ⌜ length (now b) ≡ tablesSize ⌝ }
     ensures { λ r. ⌜ r ≡ everyBelow threads (placeFits (now (b .entry))) ⌝ }
 {
+    let mut all: u32 = 0;
+    let mut stray: u32 = 0;
     let mut ok = true;
     let mut i: usize = 0;
     while i < THREADS {
-        let waiting = b[WAITING_AT + i];
+        let waits = b[WAITING_AT + i] == 1;
         let uaddr = u32_at(b, UADDR_AT + WORD_SIZE * i);
         let bitset = u32_at(b, BITSET_AT + WORD_SIZE * i);
-        let good = place_ok(waiting == 1, uaddr, bitset);
-        ok = ok & good;
+        all = all | uaddr;
+        let s = if_runs(waits, uaddr);
+        stray = stray | s;
+        ok = ok & ((bitset != 0) == waits);
+        i += 1;
+    }
+    ok & (stray == 0) & (all % WORD_BYTES == 0) & (all < PROCESS_BYTES)
+}
+
+// Where each thread stands in the arrival list, which is read where it lies. This and tail_ok are called after the test of the count.
+fn listed(b: &[u8], count: usize) -> Placed
+    requires { ⌜ (length (now b) ≡ tablesSize) × (count ≤ threads) ⌝ }
+    ensures { λ r. ⌜ PlacedIn (take count (take threads (drop listAt (now (b .entry))))) (r .low) (r .place) ⌝ }
+{
+    let mut low = true;
+    let mut place = [0u8; THREADS];
+    let mut k: u8 = 0;
+    let mut i: usize = 0;
+    while i < count {
+        let e = b[LIST_AT + i];
+        let x = index_of(e);
+        low = low & ((e as usize) < THREADS);
+        k += 1;
+        place[x] = k;
+        i += 1;
+    }
+    Placed {
+        low: low,
+        place: place,
+    }
+}
+
+// The entries past the count name no thread. All are looked at, with a counter of a byte, so that the loop is the same whatever the count.
+fn tail_ok(b: &[u8], count: usize) -> bool
+    requires { ⌜ (length (now b) ≡ tablesSize) × (count ≤ threads) ⌝ }
+    ensures { λ r. ⌜ r ≡ all (λ e. eqb e noEntry) (drop count (take threads (drop listAt (now (b .entry))))) ⌝ }
+{
+    let end = count as u8;
+    let mut ok = true;
+    let mut k: u8 = 0;
+    let mut i: usize = 0;
+    while i < THREADS {
+        ok = ok & ((k < end) | (b[LIST_AT + i] == State::NO_ENTRY));
+        k += 1;
         i += 1;
     }
     ok
@@ -121,50 +165,21 @@ fn times_ok(b: &[u8], time: u64) -> bool
     ok
 }
 
-// Whether the deadlines keep their rule at the clock, and a time up to which none comes.
-struct Times {
-    ok: bool,
-    calm: u64,
-}
-
-// Where no deadline comes up to a later time, one look at the column tells both.
-fn times_until(b: &[u8], clock: u64, time: u64) -> Times
-    requires { ⌜ length (now b) ≡ tablesSize ⌝ }
-    ensures { λ r. ⌜ TimesUntil (now (b .entry)) clock r ⌝ }
-{
-    if clock < time {
-        let calm = times_ok(b, time);
-        if calm {
-            return Times {
-                ok: true,
-                calm: time,
-            };
-        }
-    }
-    let ok = times_ok(b, clock);
-    Times {
-        ok: ok,
-        calm: clock,
-    }
-}
-
 // What the check of the bytes tells: whether they stand for tables that keep the table rules; and, if so, where each thread stands in the
-// arrival list, and a time up to which no deadline comes.
+// arrival list.
 pub struct Seen {
     pub ok: bool,
     pub place: [u8; THREADS],
-    pub calm: u64,
 }
 
-// The check, for a caller who also asks whether a deadline comes up to a time: if none does, the time that is told is no earlier.
-pub fn sound_until(b: &[u8], time: u64) -> Seen
+// The check of the bytes.
+pub fn sound(b: &[u8]) -> Seen
     ensures { λ r. ⌜ Checked (now (b .entry)) r ⌝ }
 {
     if b.len() != TABLES_SIZE {
         return Seen {
             ok: false,
             place: [0; THREADS],
-            calm: 0,
         };
     }
     let count = u64_at(b, COUNT_AT) as usize;
@@ -172,27 +187,17 @@ pub fn sound_until(b: &[u8], time: u64) -> Seen
         return Seen {
             ok: false,
             place: [0; THREADS],
-            calm: 0,
         };
     }
-    let list = list_at(b);
-    let found = places_in(list, count);
-    let tail = tail_ok(list, count);
+    let found = listed(b, count);
+    let tail = tail_ok(b, count);
     let places = places_ok(b);
     let clock = u64_at(b, CLOCK_AT);
-    let times = times_until(b, clock, time);
+    let times = times_ok(b, clock);
     let place = found.place;
     let flags = flags_ok(b, place, count);
     Seen {
-        ok: found.low & tail & places & times.ok & flags,
+        ok: found.low & tail & places & times & flags,
         place: place,
-        calm: times.calm,
     }
-}
-
-// The check of the bytes.
-pub fn sound(b: &[u8]) -> Seen
-    ensures { λ r. ⌜ Checked (now (b .entry)) r ⌝ }
-{
-    sound_until(b, 0)
 }

@@ -54,6 +54,39 @@ tested-next n f ok good i g more is =
 pub tested-all : (n : ℕ) (f : ℕ → Bool) (ok : Bool) (i : ℕ) → Tested n f ok i → n ≤ i → ok ≡ everyBelow n f
 tested-all n f ok i g end = let e : i ≡ n = omega (arith, g .within) in g .done ∙ rw e
 
+pub count-zero : (f : ℕ → Bool) → countBelow 0 f ≡ 0
+unfolding countBelow
+count-zero f = refl
+
+-- one more counted
+pub count-next : (n : ℕ) (f : ℕ → Bool) → countBelow (n + 1) f ≡ countBelow n f + bit (f n)
+unfolding countBelow
+count-next n f = ap (λ m. countBelow m f) (add-one n)
+
+-- A loop has counted the numbers below i.
+pub record Counted (n : ℕ) (f : ℕ → Bool) (k i : ℕ) : Type 0 where
+  pub within : i ≤ n
+  pub done : k ≡ countBelow i f
+  pub few : k ≤ i
+
+pub counted-start : (n : ℕ) (f : ℕ → Bool) → Counted n f 0 0
+counted-start n f = record { within = omega arith; done = sym (count-zero f); few = omega arith }
+
+pub counted-next : (n : ℕ) (f : ℕ → Bool) (k one i : ℕ) → Counted n f k i → i < n → one ≡ bit (f i) → Counted n f (k + one) (i + 1)
+counted-next n f k one i g more is =
+    record { within = omega arith; done = omega (arith, g .done, count-next i f); few = omega (arith, g .few, bit-le (f i)) }
+
+pub counted-all : (n : ℕ) (f : ℕ → Bool) (k i : ℕ) → Counted n f k i → n ≤ i → k ≡ countBelow n f
+counted-all n f k i g end = let e : i ≡ n = omega (arith, g .within) in g .done ∙ rw e
+
+-- of a stricter test no more are counted
+pub countBelow-weaken : (n : ℕ) (f g : ℕ → Bool) → ((t : ℕ) → f t ≡ true → g t ≡ true) → countBelow n f ≤ countBelow n g
+unfolding countBelow
+countBelow-weaken zero f g h = omega arith
+countBelow-weaken (suc n) f g h =
+    let ih = countBelow-weaken n f g h in
+    cases (f n) (λ e. rw (e, h n e) (omega arith)) (λ e. rw e (omega (arith, ih)))
+
 pub countBelow-ext : (n : ℕ) (f g : ℕ → Bool) → ((t : ℕ) → t < n → f t ≡ g t) → countBelow n f ≡ countBelow n g
 unfolding countBelow
 countBelow-ext zero f g h = refl

@@ -1,10 +1,11 @@
 -- Laws of `tabulate`.
-use mathlib.Core.Path.{_≡_, refl, ap, _∙_}
+use mathlib.Core.Path.{_≡_, refl, sym, ap, _∙_}
 use mathlib.Core.Bool.{Bool, _&&_}
 use mathlib.Core.List.{List, [], _∷_, _++_}
-use Prim.Native.Nat.{ℕ, zero, suc, _<_}
+use Prim.Native.Nat.{ℕ, zero, suc, _+_, _≤_, _<_}
 use native.Mathlib.Omega.{arith}
-use lib.ListN.{length, getD}
+use lib.ListN.{length, take, drop, getD, length-drop}
+use lib.Seq.{getD-take, getD-drop, ext-getD, length-take-le}
 use Rattle.lists.specs.Lists.{all, everyBelow, tabulate}
 use Rattle.lists.proofs.Loops.{all-snoc}
 
@@ -35,3 +36,20 @@ module _ {A : Type 0} where
   -- a test of every element is one of every place
   pub all-below : (f : A → Bool) (l : List A) (d : A) → all f l ≡ everyBelow (length l) (λ i. f (getD l i d))
   all-below f l d = ap (all f) (tabulate-getD l d) ∙ all-tabulate f (length l) (λ i. getD l i d)
+
+-- a part of a table
+pub tabulate-part : (n from m : ℕ) (f : ℕ → ℕ) → from + m ≤ n → tabulate m (λ k. f (from + k)) ≡ take m (drop from (tabulate n f))
+tabulate-part n from m f h = ext-getD 0 (tabulate m (λ k. f (from + k))) (take m (drop from (tabulate n f)))
+    (length-tabulate m (λ k. f (from + k)) ∙ sym size)
+    (λ i l.
+    let low : i < m = omega (arith, length-tabulate m (λ k. f (from + k))) in
+    getD-tabulate m (λ k. f (from + k)) i 0 low
+    ∙ sym (getD-take m (drop from (tabulate n f)) i 0 low ∙ getD-drop from (tabulate n f) i 0 ∙ getD-tabulate n f (from + i) 0 (omega arith)))
+  where
+    size : length (take m (drop from (tabulate n f))) ≡ m
+    size = length-take-le m (drop from (tabulate n f)) (omega (arith, length-drop from (tabulate n f), length-tabulate n f))
+
+pub tabulate-first : (n m : ℕ) (f : ℕ → ℕ) → m ≤ n → tabulate m f ≡ take m (tabulate n f)
+tabulate-first n zero f h = refl
+tabulate-first zero (suc m) f h = absurd (omega arith)
+tabulate-first (suc n) (suc m) f h = ap (f zero ∷_) (tabulate-first n m (λ i. f (suc i)) (omega arith))

@@ -1,5 +1,6 @@
 pub mod Uses
 pub mod Parts
+pub mod Choosing
 pub mod Decided
 pub mod Planned
 pub mod Carried

@@ -1,34 +1,36 @@
 -- A plan carried out leaves what the rules say, and takes listed threads, each once.
-use mathlib.Core.Path.{_≡_, refl, sym, ap, _∙_}
+use mathlib.Core.Path.{_≡_, sym, ap, _∙_}
 use mathlib.Core.Bool.{Bool, true, false, not, cond, _&&_}
-use mathlib.Core.List.{List, [], _∷_, _++_, append-nil}
+use mathlib.Core.List.{List, [], _++_, append-nil}
 use Prim.Native.Nat.{ℕ, _+_, _≤_}
 use native.Mathlib.Omega.{arith}
 use lib.ListN.{length, take, drop, length-append, length-drop}
 use lib.Seq.{take-add, length-take-le}
-use Rattle.lists.specs.Lists.{all, elem, distinct}
+use lib.Dec.{eqb}
+use Rattle.lists.specs.Lists.{all, elem}
 use Rattle.lists.proofs.Tests.{cases, clash, and-left}
+use Rattle.lists.proofs.Filter.{all-append, all-weaken}
 use Rattle.lists.proofs.Occurs.{occurs, occurs-append, occurs-distinct, occurs-without, occurs-taken-out, absent-occurs, elem-occurs, all-elem}
 use Rattle.tables.specs.declared.State.{State}
 use Rattle.tables.specs.declared.LastAnswer.the-variants.{Woken}
-use Rattle.tables.specs.Sizes.{threads}
+use Rattle.tables.specs.Sizes.{threadsPerProcess}
 use Rattle.tables.specs.Editions.{present}
-use Rattle.tables.specs.Tables.{World, arrivals, endSleeps, moveSleeps, writeWord, withState}
+use Rattle.tables.specs.Tables.{World, processOf, arrivals, endSleeps, moveSleeps, writeWord, withState}
 use Rattle.tables.proofs.Sound.{Sound, tables-sound, once}
 use Rattle.tables.proofs.Kept.{ending}
 use Rattle.tables.proofs.Stored.{move-nobody}
 use Rattle.rules.specs.declared.event.Command.{Command}
 use Rattle.rules.specs.declared.event.Call.{Call}
-use Rattle.rules.specs.declared.answer.Answer.the-variants.{Asleep, Count}
+use Rattle.rules.specs.declared.answer.Answer.the-variants.{Count}
 use Rattle.rules.specs.Answers.{Outcome, outcome}
 use Rattle.rules.specs.Commands.{commandOf, uses}
 use Rattle.rules.specs.WakeOp.{newWord}
-use Rattle.rules.specs.Calls.{maskOf, timeoutGiven, deadlineOf, released, moved, oldWord, releasedSecond, wait, wake, requeue, wakeOp, callEffect}
-use Rattle.rules.proofs.Chosen.{parts-listed, second-listed}
+use Rattle.rules.specs.Calls.{matches, maskOf, timeoutGiven, deadlineOf, released, moved, oldWord, releasedSecond, wait, wake, requeue, wakeOp, callEffect}
+use Rattle.rules.proofs.Chosen.{candidate-own, atFirst, atSecond, released-pass, moved-pass, second-pass, parts-listed, second-listed}
 use Rattle.plans.specs.declared.Plan.{Plan}
 use Rattle.plans.specs.declared.Takes.{Takes}
 use Rattle.plans.specs.Ready.{Granted}
-use Rattle.plans.specs.Plans.{carried, Fits, Planned, Takes-of}
+use Rattle.plans.specs.Plans.{carried, Planned, Takes-of}
 use Rattle.plans.proofs.Uses.{moves-second, is-wait, is-requeue, is-wakeOp, is-wake}
 
 -- the plan of a wait
@@ -40,13 +42,13 @@ planned-sleep c w g wait d sleeps mask timed due none nobody keeps count =
     let few : d .released + d .moved ≡ 0 = omega arith in
     record {
       effect = is-wait (commandOf (c .op)) c w (g .known) wait ∙ rw (sleeps, mask, timed, due);
-      fits = record { few = omega arith; each = rw few; apart = rw few; small = omega arith };
+      fits = record { few = omega arith; own = rw few; each = rw few; apart = rw few; small = omega arith };
       second = λ e. clash (d .writes) e keeps;
     }
 
 -- the plan of any other call, by whom it takes
-module _ (c : Call) (w : World) (g : Granted c (w .state) (w .words)) (go : uses (commandOf (c .op)) .deadline ≡ false) (t : Takes) (few : t .released + t .moved ≤ threads)
-    (is : Takes-of c w t) (long : length (t .taken) ≡ threads) where
+module _ (c : Call) (w : World) (g : Granted c (w .state) (w .words)) (go : uses (commandOf (c .op)) .deadline ≡ false) (t : Takes) (few : t .released + t .moved ≤ threadsPerProcess)
+    (is : Takes-of c w t) (long : length (t .taken) ≡ threadsPerProcess) where
   abbrev k : Command
   k = commandOf (c .op)
 
@@ -103,6 +105,22 @@ module _ (c : Call) (w : World) (g : Granted c (w .state) (w .words)) (go : uses
   taken-listed : (x : ℕ) → occurs x (take (t .released + t .moved) (t .taken)) ≤ occurs x (arrivals (w .state))
   taken-listed x = omega (arith, ap (occurs x) all-taken, occurs-append x rs ms, listed x)
 
+  -- and of the process
+  mine : (l : List ℕ) → all (atFirst present k c (w .state)) l ≡ true → all (λ x. eqb (processOf x) (c .process)) l ≡ true
+  mine = all-weaken (atFirst present k c (w .state)) (λ x. eqb (processOf x) (c .process)) (candidate-own present (matches k c) (c .process) (c .uaddr) (w .state))
+
+  mine-second : all (λ x. eqb (processOf x) (c .process)) (releasedSecond k c w) ≡ true
+  mine-second = all-weaken (atSecond present k c (w .state)) (λ x. eqb (processOf x) (c .process)) (candidate-own present (matches k c) (c .process) (c .uaddr2) (w .state)) (releasedSecond k c w) (second-pass present k c w)
+
+  taken-own : all (λ x. eqb (processOf x) (c .process)) (take (t .released + t .moved) (t .taken)) ≡ true
+  taken-own =
+      let own : ℕ → Bool = λ x. eqb (processOf x) (c .process) in
+      let first = mine (released k c (w .state)) (released-pass present k c (w .state)) in
+      ap (all own) all-taken ∙ all-append own rs ms
+      (ap (all own) (is .released) ∙ all-append own (released k c (w .state)) (cond (uses k .second && not (uses k .moves)) (releasedSecond k c w) []) first
+      (cases (uses k .second && not (uses k .moves)) (λ e. rw e mine-second) (λ e. rw e)))
+      (ap (all own) (is .moved) ∙ cases (uses k .moves) (λ e. rw e (mine (moved k c (w .state)) (moved-pass present k c (w .state)))) (λ e. rw e))
+
   abbrev plan : ℕ → ℕ → Plan
   plan word count =
       record {
@@ -118,7 +136,7 @@ module _ (c : Call) (w : World) (g : Granted c (w .state) (w .words)) (go : uses
         count = count;
       }
 
-  module _ (word count : ℕ) (new : uses k .second ≡ true → word ≡ newWord (c .val3) (oldWord c w)) (counts : count ≡ t .released + cond (uses k .compare) (t .moved) 0) where
+  module _ (word count : ℕ) (new : uses k .second ≡ true → uses k .moves ≡ false → word ≡ newWord (c .val3) (oldWord c w)) (counts : count ≡ t .released + cond (uses k .compare) (t .moved) 0) where
     abbrev s : State
     s = w .state
 
@@ -149,7 +167,7 @@ module _ (c : Call) (w : World) (g : Granted c (w .state) (w .words)) (go : uses
         let n : count ≡ length (released k c s) + length (releasedSecond k c w) =
         all-counted m ∙ first-counted l (rs-both m d) ∙ length-append (released k c s) (releasedSecond k c w) in
         let left = ended m ∙ ap (λ ts. endSleeps Woken ts s) (rs-both m d) in
-        rw (m, d) (λ i. outcome (Count (n i)) (writeWord (c .process) (c .uaddr2) (new d i) (withState (left i) w)))
+        rw (m, d) (λ i. outcome (Count (n i)) (writeWord (c .process) (c .uaddr2) (new d m i) (withState (left i) w)))
 
     woken : uses k .moves ≡ false → uses k .second ≡ false → carried c (plan word count) w ≡ wake k c w
     unfolding carried wake
@@ -172,6 +190,7 @@ module _ (c : Call) (w : World) (g : Granted c (w .state) (w .words)) (go : uses
           fits =
               record {
                 few = few;
+                own = taken-own;
                 each = all-elem (λ x. elem x (arrivals (w .state))) (take (t .released + t .moved) (t .taken))
                     (λ x e. cases (elem x (arrivals (w .state))) (λ h. h) (λ h. absurd (omega (arith, elem-occurs x (take (t .released + t .moved) (t .taken)) e, taken-listed x, absent-occurs x (arrivals (w .state)) h))));
                 apart = occurs-distinct (take (t .released + t .moved) (t .taken)) (λ x. omega (arith, taken-listed x, once (w .state) sound x));

@@ -1,15 +1,18 @@
 -- What the plan of a call is, part for part: carried out it leaves what the rules say, and it takes sleepers, each once.
-use mathlib.Core.Path.{_≡_, refl, sym, ap, _∙_}
+use mathlib.Core.Path.{_≡_, refl, sym, _∙_}
 use mathlib.Core.Bool.{true, false}
 use mathlib.Core.List.{List, _++_}
 use Prim.Native.Nat.{ℕ, _+_, _≤_, _<_}
-use lib.ListN.{length, take}
-use lib.Seq.{take-add}
+use native.Mathlib.Omega.{arith}
+use lib.ListN.{length, take, drop, length-drop}
+use lib.Seq.{take-add, length-take-le}
+use lib.Dec.{eqb}
+use borrow.Author.Tests.{eqb-true}
 use Rattle.lists.specs.Lists.{elem}
 use Rattle.lists.proofs.Occurs.{occurs, distinct-occurs, elem-all}
 use Rattle.tables.specs.declared.State.{State}
-use Rattle.tables.specs.Sizes.{processes, threadsPerProcess, threads, bytesPerProcess, memoryWords}
-use Rattle.tables.specs.Tables.{World, threadOf, arrivals, tablesOk, writeWord}
+use Rattle.tables.specs.Sizes.{processes, threadsPerProcess, bytesPerProcess, memoryWords}
+use Rattle.tables.specs.Tables.{World, processOf, threadOf, arrivals, tablesOk, writeWord}
 use Rattle.tables.proofs.Sound.{tables-sound, listed-waiting}
 use Rattle.rules.specs.declared.event.Call.{Call}
 use Rattle.rules.specs.Commands.{commandOf, isUnknown, uses}
@@ -23,6 +26,13 @@ use Rattle.plans.specs.Plans.{released-in, moved-in, written, carried, P
 -- whom a plan takes: those that run, and behind them those that move
 pub taken-are : (d : Plan) → take (d .released + d .moved) (d .taken) ≡ released-in d ++ moved-in d
 taken-are d = take-add (d .released) (d .moved) (d .taken)
+
+-- as many as it says
+pub released-counted : (d : Plan) → d .released ≤ length (d .taken) → length (released-in d) ≡ d .released
+released-counted d = length-take-le (d .released) (d .taken)
+
+pub moved-counted : (d : Plan) → d .released + d .moved ≤ length (d .taken) → length (moved-in d) ≡ d .moved
+moved-counted d fits = length-take-le (d .moved) (drop (d .released) (d .taken)) (omega (arith, length-drop (d .released) (d .taken)))
 
 pub word-written : (c : Call) (d : Plan) (w : World) → d .writes ≡ true → written c d w ≡ writeWord (c .process) (c .uaddr2) (d .word) w
 word-written c d w writes = rw writes
@@ -42,10 +52,14 @@ module _ (c : Call) (w : World) (d : Plan) (is : Planned c w d) where
   pub plan-takes-once : (t : ℕ) → occurs t (take (d .released + d .moved) (d .taken)) ≤ 1
   plan-takes-once t = distinct-occurs t (take (d .released + d .moved) (d .taken)) (is .fits .apart)
 
-  pub plan-takes-few : d .released + d .moved ≤ threads
+  pub plan-takes-own : (t : ℕ) → elem t (take (d .released + d .moved) (d .taken)) ≡ true → processOf t ≡ c .process
+  plan-takes-own t e =
+      eqb-true (processOf t) (c .process) (elem-all (λ x. eqb (processOf x) (c .process)) (take (d .released + d .moved) (d .taken)) (is .fits .own) t e)
+
+  pub plan-takes-few : d .released + d .moved ≤ threadsPerProcess
   plan-takes-few = is .fits .few
 
-  pub plan-counts-few : d .count ≤ threads
+  pub plan-counts-few : d .count ≤ threadsPerProcess
   plan-counts-few = is .fits .small
 
   pub plan-writes-second : d .writes ≡ true → uses (commandOf (c .op)) .second ≡ true

@@ -4,13 +4,14 @@ use mathlib.Core.Bool.{Bool, true, false, not, cond, _&&_}
 use mathlib.Core.List.{List, [], _++_}
 use Prim.Native.Nat.{ℕ, _+_, _≤_}
 use lib.ListN.{take, drop}
+use lib.Dec.{eqb}
 use Rattle.lists.specs.Lists.{all, elem, distinct}
 use Rattle.tables.specs.declared.State.{State}
 use Rattle.tables.specs.declared.LastAnswer.the-variants.{Woken}
 use Rattle.rules.specs.declared.event.Call.{Call}
 use Rattle.rules.specs.declared.answer.Answer.the-variants.{Asleep, Count}
-use Rattle.tables.specs.Sizes.{threads}
-use Rattle.tables.specs.Tables.{World, arrivals, tablesOk, asleepAt, fallAsleep, endSleeps, moveSleeps, writeWord, withState}
+use Rattle.tables.specs.Sizes.{threadsPerProcess}
+use Rattle.tables.specs.Tables.{World, processOf, arrivals, tablesOk, asleepAt, fallAsleep, endSleeps, moveSleeps, writeWord, withState}
 use Rattle.rules.specs.Answers.{Outcome, outcome}
 use Rattle.rules.specs.Commands.{commandOf, uses}
 use Rattle.rules.specs.WakeOp.{compares}
@@ -40,17 +41,18 @@ carried c d w =
     (outcome (Count (d .count))
     (written c d (withState (moveSleeps (c .uaddr2) (moved-in d) (endSleeps Woken (released-in d) (w .state))) w)))
 
--- each thread that is taken is on the list, and none is taken twice
-pub record Fits (d : Plan) (s : State) : Type 0 where
-  pub few : d .released + d .moved ≤ threads
+-- each thread that is taken is of the process and on the list, and none is taken twice
+pub record Fits (p : ℕ) (d : Plan) (s : State) : Type 0 where
+  pub few : d .released + d .moved ≤ threadsPerProcess
+  pub own : all (λ t. eqb (processOf t) p) (take (d .released + d .moved) (d .taken)) ≡ true
   pub each : all (λ t. elem t (arrivals s)) (take (d .released + d .moved) (d .taken)) ≡ true
   pub apart : distinct (take (d .released + d .moved) (d .taken)) ≡ true
-  pub small : d .count ≤ threads
+  pub small : d .count ≤ threadsPerProcess
 
 -- the plan of a call that no row refuses: carried out, it leaves what the rules say
 pub record Planned (c : Call) (w : World) (d : Plan) : Type 0 where
   pub effect : callEffect (commandOf (c .op)) c w ≡ carried c d w
-  pub fits : Fits d (w .state)
+  pub fits : Fits (c .process) d (w .state)
   pub second : d .writes ≡ true → uses (commandOf (c .op)) .second ≡ true
 
 -- of a wait, whatever tables have the clock
@@ -66,18 +68,6 @@ PlannedTake c v old d =
 
 -- What the functions of this crate compute on the way.
 
--- the first cap of a word's sleepers run, the next cap2 move or run too
-pub record AtOneWord (l : List ℕ) (cap cap2 : ℕ) (moves : Bool) (r : Takes) : Type 0 where
-  pub released : take (r .released) (r .taken) ≡ cond moves (take cap l) (take (cap + cap2) l)
-  pub moved : take (r .moved) (drop (r .released) (r .taken)) ≡ cond moves (take cap2 (drop cap l)) []
-  pub few : r .released + r .moved ≤ threads
-
--- the first of each of two words run
-pub record AtTwoWords (l : List ℕ) (cap : ℕ) (m : List ℕ) (cap2 : ℕ) (r : Takes) : Type 0 where
-  pub released : take (r .released) (r .taken) ≡ take cap l ++ take cap2 m
-  pub moved : r .moved ≡ 0
-  pub few : r .released + r .moved ≤ threads
-
 -- whom the rules release and move
 pub record Takes-of (c : Call) (w : World) (r : Takes) : Type 0 where
   pub released : take (r .released) (r .taken) ≡ released (commandOf (c .op)) c (w .state)
@@ -86,6 +76,6 @@ pub record Takes-of (c : Call) (w : World) (r : Takes) : Type 0 where
 
 -- whatever tables have the view
 pub record TakesFor (c : Call) (v : View) (holds : Bool) (r : Takes) : Type 0 where
-  pub few : r .released + r .moved ≤ threads
+  pub few : r .released + r .moved ≤ threadsPerProcess
   pub takes : (w : World) → tablesOk (w .state) ≡ true → Views (c .process) (w .state) v
-      → (uses (commandOf (c .op)) .second ≡ true → compares (c .val3) (oldWord c w) ≡ holds) → Takes-of c w r
+      → (uses (commandOf (c .op)) .second ≡ true → uses (commandOf (c .op)) .moves ≡ false → compares (c .val3) (oldWord c w) ≡ holds) → Takes-of c w r

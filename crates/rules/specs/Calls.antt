@@ -104,21 +104,24 @@ deadlineOf k c now = cond (uses k .mask) (c .timeout) (min (now + c .timeout) (t
 abbrev pub late : Command → Call → ℕ → Bool
 late k c now = uses k .deadline && timeoutGiven c && leb (deadlineOf k c now) now
 
--- The table of answers from its third row on, with its rows for -22, by what a call reads of the tables and words: whether the caller
--- waits, the clock and the word at uaddr.
-abbrev pub tableWith : Edition → List Row → Call → Bool → ℕ → ℕ → List Row
-tableWith ed arguments c waits now word =
-    let k = commandOf (c .op) in
-    ESRCH when noThreadIn ed (c .process) (c .index)
-    ∷ EBUSY when waits
-    ∷ ENOSYS when notImplemented (c .op)
-    ∷ (arguments
-    ++ (EFAULT when badAddress k c
+-- The rows behind those for -22, by the clock and the word at uaddr.
+abbrev pub behindRows : Command → Call → ℕ → ℕ → List Row
+behindRows k c now word =
+    EFAULT when badAddress k c
     -- "WAKE_OP with an undefined operation or comparison"
     ∷ ENOSYS when (isWakeOp k && undefinedOp (c .val3))
     ∷ EAGAIN when differs k c word
     ∷ ETIMEDOUT when late k c now
-    ∷ []))
+    ∷ []
+
+-- The table of answers from its third row on, with its rows for -22, by what a call reads of the tables and words: whether the caller
+-- waits, the clock and the word at uaddr.
+abbrev pub tableWith : Edition → List Row → Call → Bool → ℕ → ℕ → List Row
+tableWith ed arguments c waits now word =
+    ESRCH when noThreadIn ed (c .process) (c .index)
+    ∷ EBUSY when waits
+    ∷ ENOSYS when notImplemented (c .op)
+    ∷ (arguments ++ behindRows (commandOf (c .op)) c now word)
 
 unfoldable pub rowsIn : Edition → Call → Bool → ℕ → ℕ → List Row
 rowsIn ed c waits now word = tableWith ed (argumentRows (commandOf (c .op)) c) c waits now word

@@ -1,14 +1,12 @@
 // Verdicts: the table of answers, every refusal of a call and of a set priority, on the few numbers that it reads. It stands on commands
 // and operations.
 ghost use mathlib.Core.Path.{_≡_};
-ghost use mathlib.Core.Bool.{cond, _&&_};
-ghost use mathlib.Core.List.{[], _∷_};
-ghost use Rattle.rules.specs.declared.answer.Errno.the-variants.{ENOSYS, EINVAL, EFAULT, EAGAIN, ETIMEDOUT};
+ghost use mathlib.Core.Bool.{cond};
+ghost use Rattle.rules.specs.declared.answer.Errno.the-variants.{EINVAL};
 ghost use Rattle.rules.specs.declared.answer.Verdict.the-variants.{Refuse};
-ghost use Rattle.rules.specs.Answers.{_because_, _when_, plain, first, reasonAmong};
+ghost use Rattle.rules.specs.Answers.{_because_, plain, first, reasonAmong};
 ghost use Rattle.rules.specs.Commands.{commandOf};
-ghost use Rattle.rules.specs.WakeOp.{undefinedOp};
-ghost use Rattle.rules.specs.Calls.{noThread, badArgument, argumentRows, badAddress, isWakeOp, differs, late, callRows};
+ghost use Rattle.rules.specs.Calls.{noThread, badArgument, argumentRows, badAddress, differs, late, behindRows, callRows};
 ghost use Rattle.rules.specs.Events.{priorityRows};
 use commands::deadline_of;
 use commands::not_implemented;
@@ -138,13 +136,7 @@ fn late(c: Call, now: u64) -> bool
 
 // The verdict by the rows behind those for -22.
 fn verdict_behind(c: Call, now: u64, word: u32) -> Verdict
-    ensures { λ r. ⌜ r ≡ first (
-        EFAULT when badAddress (commandOf (c .op)) c
-        ∷ ENOSYS when (isWakeOp (commandOf (c .op)) && undefinedOp (c .val3))
-        ∷ EAGAIN when differs (commandOf (c .op)) c word
-        ∷ ETIMEDOUT when late (commandOf (c .op)) c now
-        ∷ []
-        ) ⌝ }
+    ensures { λ r. ⌜ r ≡ first (behindRows (commandOf (c .op)) c now word) ⌝ }
 {
     if bad_address(c) {
         return refused(Errno::EFAULT);

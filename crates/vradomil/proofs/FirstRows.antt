@@ -14,7 +14,7 @@ use Rattle.rules.specs.declared.answer.Errno.the-variants.{ENXIO, EBADF}
 use Rattle.rules.specs.Answers.{plain, first}
 use Rattle.rules.specs.Calls.{wrongMemory, firstRows}
 use Rattle.tables.specs.Sizes.{wordBytes, memoryWords}
-use Rattle.tables.specs.Tables.{tablesOk, expiredSleepers}
+use Rattle.tables.specs.Tables.{tablesOk}
 use Rattle.layout.specs.Layout.{tablesAt, wordsOf, wordsAt, memorySize}
 use Rattle.layout.specs.declared.check.Seen.{Seen}
 use Rattle.layout.specs.Check.{Checked}
@@ -47,7 +47,6 @@ module _ (b m : List ℕ) (l : Lent) where
         held = λ e. not-pass (sym is ∙ e);
         long = λ e. not-pass (sym is ∙ e);
         places = λ e. not-pass (sym is ∙ e);
-        calm = λ e. not-pass (sym is ∙ e);
       }
 
   pub refused-memory : (length m ≡ memorySize → ⊥) → l .verdict ≡ Refuse (plain ENXIO) → BuffersJudged b m l
@@ -57,13 +56,11 @@ module _ (b m : List ℕ) (l : Lent) where
   refused-tables size bad is = refused-lent (plain EBADF) is (tables-row b m size bad)
 
 pub let-through : (b m : List ℕ) → length m ≡ memorySize → (x : Seen) → x .ok ≡ true → Checked b x
-    → BuffersJudged b m (record { verdict = Pass; place = x .place; calm = x .calm })
-unfolding expiredSleepers
+    → BuffersJudged b m (record { verdict = Pass; place = x .place })
 let-through b m size x good is =
     record {
       verdict = rw (right-words b m size, sym (is .answer) ∙ good);
       held = λ e. is .held good;
       long = λ e. size;
       places = λ e. is .places good;
-      calm = λ e. is .calm good;
     }

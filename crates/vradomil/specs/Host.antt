@@ -17,7 +17,7 @@ use Rattle.rules.specs.declared.answer.Verdict.the-variants.{Pass}
 use Rattle.rules.specs.declared.answer.Errno.the-variants.{EBADF}
 use Rattle.rules.specs.declared.answer.Panel.{Panel}
 use Rattle.tables.specs.Sizes.{wordLimit, timeLimit}
-use Rattle.tables.specs.Tables.{World, world, fresh, arrivals, expiredSleepers}
+use Rattle.tables.specs.Tables.{World, world, fresh, arrivals}
 use Rattle.tables.specs.Steps.{Places}
 use Rattle.rules.specs.Answers.{plain, first, Outcome, isRefused, errnoNumber, reasonNumber, reasonOf, asleepNumber}
 use Rattle.rules.specs.Calls.{firstRows}
@@ -134,7 +134,6 @@ pub record BuffersJudged (tables words : List ℕ) (l : Lent) : Type 0 where
   pub held : l .verdict ≡ Pass → Held tables
   pub long : l .verdict ≡ Pass → length words ≡ memorySize
   pub places : l .verdict ≡ Pass → Places (l .place) (arrivals (stateAt tables))
-  pub calm : l .verdict ≡ Pass → (time : ℕ) → time ≤ l .calm → expiredSleepers time (stateAt tables) ≡ []
 
 -- a call on tables that keep the rules, which no row refuses
 pub record Passed (c : Call) (tables words place : List ℕ) : Type 0 where

@@ -8,7 +8,7 @@ ghost use Rattle.rules.specs.declared.answer.Verdict.the-variants.{Refuse};
 ghost use Rattle.rules.specs.Answers.{plain};
 ghost use Rattle.vradomil.specs.Host.{BuffersJudged};
 use layout::WORD_SIZE;
-use layout::check::sound_until;
+use layout::check::sound;
 use numbers::u32_at;
 use rules::answer::Errno;
 use rules::answer::Reason;
@@ -19,12 +19,10 @@ use tables::WORDS;
 
 const WORDS_SIZE: usize = WORD_SIZE * WORDS;
 
-// The first two rows of the table of answers; and, where neither refuses, where each thread stands in the arrival list, and a time up to
-// which no deadline comes.
+// The first two rows of the table of answers; and, where neither refuses, where each thread stands in the arrival list.
 pub(crate) struct Lent {
     pub(crate) verdict: Verdict,
     pub(crate) place: [u8; THREADS],
-    pub(crate) calm: u64,
 }
 
 fn refused(errno: Errno) -> Lent
@@ -36,18 +34,16 @@ fn refused(errno: Errno) -> Lent
             reason: Reason::NoReason,
         }),
         place: [0; THREADS],
-        calm: 0,
     }
 }
 
-// A caller that asks whether a deadline comes up to a time says so.
-pub(crate) fn judge_buffers(tables: &[u8], words: &[u8], time: u64) -> Lent
+pub(crate) fn judge_buffers(tables: &[u8], words: &[u8]) -> Lent
     ensures { λ r. ⌜ BuffersJudged (now (tables .entry)) (now (words .entry)) r ⌝ }
 {
     if words.len() != WORDS_SIZE {
         return refused(Errno::ENXIO);
     }
-    let seen = sound_until(tables, time);
+    let seen = sound(tables);
     if !seen.ok {
         return refused(Errno::EBADF);
     }
@@ -55,7 +51,6 @@ pub(crate) fn judge_buffers(tables: &[u8], words: &[u8], time: u64) -> Lent
     Lent {
         verdict: Verdict::Pass,
         place: place,
-        calm: seen.calm,
     }
 }
 

@@ -18,6 +18,7 @@ ghost use Rattle.vradomil.specs.Host.{Passed, PutWord, Leaves, Calls};
 use crate::answer::refusal;
 use crate::buffers::judge_buffers;
 use crate::buffers::word_at;
+use changes::column_of;
 use changes::fall_asleep;
 use changes::take;
 use changes::view_at;
@@ -26,7 +27,7 @@ use commands::uses_by;
 use commands::word_index;
 use layout::CLOCK_AT;
 use layout::WORD_SIZE;
-use layout::read::thread_at;
+use layout::read::waits_at;
 use numbers::put_u32;
 use numbers::u64_at;
 use plans::Plan;
@@ -34,7 +35,6 @@ use plans::sleep_plan;
 use plans::take_plan;
 use rules::answer::Verdict;
 use rules::event::Call;
-use tables::LastAnswer;
 use tables::THREADS;
 use verdicts::verdict_on;
 
@@ -80,16 +80,9 @@ fn carry_out(b: &mut [u8], words: &mut [u8], c: Call, place: [u8; THREADS], d: P
         return ASLEEP;
     }
     put_word(words, c, d);
+    let at = column_of(place, c.process as usize);
     let taken = d.taken;
-    take(
-        b,
-        place,
-        taken,
-        d.released,
-        LastAnswer::Woken,
-        d.moved,
-        c.uaddr2,
-    );
+    take(b, at, taken, d.released, d.moved, c.uaddr2);
     d.count
 }
 
@@ -108,11 +101,11 @@ fn judge(tables: &[u8], words: &[u8], c: Call) -> Verdict
     ensures { λ r. ⌜ r ≡ first (ownRows (CallEvent c) (world (stateAt (now (tables .entry))) (wordsAt (now (words .entry))))) ⌝ }
 {
     let t = thread_index(c.process, c.index);
-    let thread = thread_at(tables, t);
+    let waits = waits_at(tables, t);
     let i = word_index(c.process, c.uaddr);
     let word = word_at(words, i);
     let clock = u64_at(tables, CLOCK_AT);
-    verdict_on(c, thread.waiting, clock, word)
+    verdict_on(c, waits, clock, word)
 }
 
 // A futex call.
@@ -143,7 +136,7 @@ pub extern "C" fn vradomil_call(
         uaddr2: uaddr2,
         val3: val3,
     };
-    let lent = judge_buffers(tables, words, 0);
+    let lent = judge_buffers(tables, words);
     let v = lent.verdict;
     match v {
         Verdict::Refuse(x) => {

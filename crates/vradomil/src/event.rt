@@ -12,9 +12,9 @@ ghost use Rattle.layout.specs.Layout.{stateAt, tablesSize, listAt, waitingAt};
 ghost use Rattle.vradomil.specs.Host.{ChangesWords, ChangesTables, Shows, Initialised};
 use crate::answer::refusal;
 use crate::buffers::judge_buffers;
-use changes::end_split;
+use changes::end_due;
+use changes::end_one;
 use changes::set_priority;
-use changes::take;
 use commands::thread_index;
 use commands::word_index;
 use effects::only_if;
@@ -24,7 +24,6 @@ use layout::TABLES_SIZE;
 use layout::WAITING_AT;
 use layout::WORD_SIZE;
 use layout::check::sound;
-use layout::read::due;
 use numbers::put_u32;
 use numbers::put_u64;
 use numbers::u64_at;
@@ -35,7 +34,6 @@ use tables::LastAnswer;
 use tables::PROCESS_BYTES;
 use tables::PROCESSES;
 use tables::State;
-use tables::THREADS;
 use tables::WORD_BYTES;
 use verdicts::invalid;
 use verdicts::no_thread;
@@ -53,7 +51,7 @@ pub extern "C" fn vradomil_store(
 ) -> i32
     ensures { λ r. ⌜ ChangesWords (Store process address value) (now (tables .entry)) (now (words .entry)) [] r (now (words .exit)) [] ⌝ }
 {
-    let lent = judge_buffers(tables, words, 0);
+    let lent = judge_buffers(tables, words);
     let v = lent.verdict;
     match v {
         Verdict::Refuse(x) => {
@@ -84,7 +82,7 @@ pub extern "C" fn vradomil_store(
 pub extern "C" fn vradomil_clock(tables: &mut [u8], words: &[u8], time: u64) -> i32
     ensures { λ r. ⌜ ChangesTables (Clock time) (now (tables .entry)) (now (words .entry)) [] r (now (tables .exit)) [] ⌝ }
 {
-    let lent = judge_buffers(tables, words, time);
+    let lent = judge_buffers(tables, words);
     let v = lent.verdict;
     match v {
         Verdict::Refuse(x) => {
@@ -96,12 +94,7 @@ pub extern "C" fn vradomil_clock(tables: &mut [u8], words: &[u8], time: u64) -> 
             if time < clock {
                 return refusal(Errno::EINVAL);
             }
-            if time <= lent.calm {
-                put_u64(tables, CLOCK_AT, time);
-                return 0;
-            }
-            let parts = due(tables, time);
-            let n = end_split(tables, parts, LastAnswer::TimedOut);
+            let n = end_due(tables, time);
             put_u64(tables, CLOCK_AT, time);
             n as i32
         }
@@ -113,7 +106,7 @@ pub extern "C" fn vradomil_clock(tables: &mut [u8], words: &[u8], time: u64) -> 
 pub extern "C" fn vradomil_interrupt(tables: &mut [u8], words: &[u8], process: u8, index: u8) -> i32
     ensures { λ r. ⌜ ChangesTables (Interrupt process index) (now (tables .entry)) (now (words .entry)) [] r (now (tables .exit)) [] ⌝ }
 {
-    let lent = judge_buffers(tables, words, 0);
+    let lent = judge_buffers(tables, words);
     let v = lent.verdict;
     match v {
         Verdict::Refuse(x) => {
@@ -129,9 +122,7 @@ pub extern "C" fn vradomil_interrupt(tables: &mut [u8], words: &[u8], process: u
             if place[t] == 0 {
                 return 0;
             }
-            let mut one = [State::NO_ENTRY; THREADS];
-            one[0] = t as u8;
-            take(tables, place, one, 1, LastAnswer::Interrupted, 0, 0);
+            end_one(tables, t, place[t], LastAnswer::Interrupted);
             1
         }
     }
@@ -148,7 +139,7 @@ pub extern "C" fn vradomil_set_priority(
 ) -> i32
     ensures { λ r. ⌜ ChangesTables (SetPriority process index priority) (now (tables .entry)) (now (words .entry)) [] r (now (tables .exit)) [] ⌝ }
 {
-    let lent = judge_buffers(tables, words, 0);
+    let lent = judge_buffers(tables, words);
     let v = lent.verdict;
     match v {
         Verdict::Refuse(x) => {

@@ -1,10 +1,13 @@
 use denote.Ref.{now}
-use mathlib.Core.Path.{refl, sym}
+use mathlib.Core.Path.{_≡_, refl, sym, ap}
 use Prim.Native.Nat.{_-_}
 use native.Mathlib.Omega.{arith}
 use borrow.Author.Needs.{needs}
-use Rattle.tables.specs.Sizes.{threadsPerProcess}
-use Rattle.tables.proofs.Sound.{tables-sound}
+use borrow.Author.Tests.{leb-true}
+use Rattle.tables.specs.Sizes.{threadsPerProcess, maxPriority}
+use Rattle.tables.specs.declared.Thread.{Thread}
+use Rattle.tables.specs.Tables.{threadNumber, threadOf}
+use Rattle.tables.proofs.Sound.{tables-sound, priority-kept}
 use Rattle.layout.specs.Layout.{threadAt, stateAt}
 use Rattle.layout.proofs.Reading.{thread-read}
 use Rattle.views.proofs.Viewing.{Viewing, viewing-start, viewing-next, viewing-all}
@@ -28,6 +31,12 @@ add-t c = omega arith
 
 array-read-at : tie.Need-array-read-at Inv-loop μ-loop
 array-read-at c = search needs
+
+cast-at : tie.Need-cast-at Inv-loop μ-loop
+cast-at c = search needs
+
+mul-at : tie.Need-mul-at Inv-loop μ-loop
+mul-at c = omega arith
 
 array-write-at : tie.Need-array-write-at Inv-loop μ-loop
 array-write-at c = search needs
@@ -68,6 +77,18 @@ add-priority c = omega arith
 shared-slice-read-priority : tie.Need-shared-slice-read-priority Inv-loop μ-loop
 shared-slice-read-priority c = omega arith
 
+cast-priority : tie.Need-cast-priority Inv-loop μ-loop
+cast-priority c =
+    let k = c .before .before .before .before in
+    let g = k .before .before in
+    let b = now (g .args .b) in
+    let t = threadNumber (g .args .process) (k .loop .i) in
+    let read : threadOf (stateAt b) t .priority ≡ threadAt b t .priority = ap (λ (r : Thread). r .priority) (thread-read b t (omega arith)) in
+    omega (arith, read, leb-true (threadOf (stateAt b) t .priority) maxPriority (priority-kept (stateAt b) (tables-sound _ (g .pre .0 .sound)) t))
+
+mul-priority : tie.Need-mul-priority Inv-loop μ-loop
+mul-priority c = omega arith
+
 array-write-priority : tie.Need-array-write-priority Inv-loop μ-loop
 array-write-priority c = search needs
 
@@ -90,9 +111,9 @@ returns : tie.Need-returns Inv-loop μ-loop
 returns c =
     let k = c .before in
     let g = k .before .before in
-    viewing-all (threadAt (now (g .args .b))) (g .args .t3) (g .args .process) (stateAt (now (g .args .b))) (tables-sound _ (g .pre .0 .sound))
-    (λ t h. sym (thread-read (now (g .args .b)) t h)) (g .pre .1 .0) (g .pre .1 .1) (k .loop .at) (k .loop .uaddr) (k .loop .bitset) (k .loop .priority)
-    (k .loop .i) (k .loop .inv) (omega arith)
+    let b = now (g .args .b) in
+    viewing-all (threadAt b) (g .args .t3) (g .args .process) (stateAt b) (tables-sound _ (g .pre .0 .sound)) (λ t h. sym (thread-read b t h)) (g .pre .1 .0) (g .pre .1 .1)
+    (k .loop .at) (k .loop .uaddr) (k .loop .bitset) (k .loop .priority) (k .loop .i) (k .loop .inv) (omega arith)
 
 pub view-at-spec : {M : Type 1} → statement M
 view-at-spec =
@@ -104,6 +125,8 @@ view-at-spec =
     loop-holds
     add-t
     array-read-at
+    cast-at
+    mul-at
     array-write-at
     mul-u32-at
     add-u32-at
@@ -117,6 +140,8 @@ view-at-spec =
     array-write-bitset
     add-priority
     shared-slice-read-priority
+    cast-priority
+    mul-priority
     array-write-priority
     add-i
     loop-less

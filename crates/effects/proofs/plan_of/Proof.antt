@@ -8,6 +8,7 @@ use Rattle.tables.specs.Tables.{world}
 use Rattle.rules.specs.Commands.{commandOf, uses}
 use Rattle.rules.specs.Calls.{oldWord}
 use Rattle.commands.proofs.Places.{word-there}
+use Rattle.views.proofs.Ordering.{views-small}
 use Rattle.effects.proofs.plan_of.Statement.{statement}
 use Rattle.effects.proofs.plan_of.Tie as tie
 
@@ -40,7 +41,10 @@ shared-slice-read-old : tie.Need-shared-slice-read-old
 shared-slice-read-old c = search needs
 
 take-plan-requires : tie.Need-take-plan-requires
-take-plan-requires c κs = search needs
+take-plan-requires c κs =
+    let v = c .before .before in
+    let g = v .before .before .before .before .before in
+    (g .pre .0 .ready .process, views-small (g .args .c .process) (g .args .s) (v .view-of .result) (g .pre .0 .ready .tables) (v .view-of .ensures))
 
 returns-2 : tie.Need-returns-2
 returns-2 c =

@@ -1,6 +1,7 @@
 use mathlib.Core.Path.{refl}
 use Prim.Native.Nat.{_-_}
 use native.Mathlib.Omega.{arith}
+use borrow.Author.Needs.{needs}
 use Rattle.tables.specs.Sizes.{threadsPerProcess}
 use Rattle.tables.specs.Tables.{threadOf}
 use Rattle.tables.proofs.Sound.{tables-sound}
@@ -37,6 +38,12 @@ add-at c = omega arith
 array-read-at : tie.Need-array-read-at Inv-loop μ-loop
 array-read-at c = omega arith
 
+cast-at : tie.Need-cast-at Inv-loop μ-loop
+cast-at c = search needs
+
+mul-at : tie.Need-mul-at Inv-loop μ-loop
+mul-at c = omega arith
+
 array-write-at : tie.Need-array-write-at Inv-loop μ-loop
 array-write-at c = omega arith
 
@@ -52,6 +59,12 @@ mul-bitset c = omega arith
 array-write-bitset : tie.Need-array-write-bitset Inv-loop μ-loop
 array-write-bitset c = omega arith
 
+cast-priority : tie.Need-cast-priority Inv-loop μ-loop
+cast-priority c = search needs
+
+mul-priority : tie.Need-mul-priority Inv-loop μ-loop
+mul-priority c = omega arith
+
 array-write-priority : tie.Need-array-write-priority Inv-loop μ-loop
 array-write-priority c = omega arith
 
@@ -63,7 +76,7 @@ loop-less c = omega arith
 
 loop-again : tie.Need-loop-again Inv-loop μ-loop
 loop-again c =
-    let k = c .before .before in
+    let k = c .before .before .before in
     let g = k .before in
     let l = k .loop in
     viewing-next (threadOf (g .args .t1)) (g .args .t3) (g .args .process) (l .at) (l .uaddr) (l .bitset) (l .priority) (l .i) _ _ _ _ (l .inv) (omega arith) refl refl refl refl
@@ -88,11 +101,15 @@ view-of-spec =
     element-copy-out-t
     add-at
     array-read-at
+    cast-at
+    mul-at
     array-write-at
     mul-uaddr
     array-write-uaddr
     mul-bitset
     array-write-bitset
+    cast-priority
+    mul-priority
     array-write-priority
     add-i
     loop-less

@@ -1,4 +1,7 @@
 use borrow.Author.Needs.{needs}
+use mathlib.Core.Path.{_≡_}
+use Rattle.rules.specs.Commands.{commandOf}
+use Rattle.rules.specs.Calls.{deadlineOf}
 use Rattle.verdicts.proofs.late.Statement.{statement}
 use Rattle.verdicts.proofs.late.Tie as tie
 
@@ -12,7 +15,12 @@ deadline-of-requires : tie.Need-deadline-of-requires
 deadline-of-requires c κs = search needs
 
 returns : tie.Need-returns
-returns c = rw (c .before .before .before .uses-by .ensures, c .before .before .timeout-given .ensures, c .before .deadline-of .ensures, c .before .before .before .uses-by .ensures)
+returns c =
+    let d = c .before in
+    let u = d .before .before in
+    let g = u .before .args in
+    let due : d .deadline-of .result ≡ deadlineOf (commandOf (g .c .op)) (g .c) (g .now) = rw (← u .uses-by .ensures) (d .deadline-of .ensures) in
+    rw (← due, ← u .uses-by .ensures, ← d .before .timeout-given .ensures)
 
 pub late-spec : {M : Type 1} → statement M
 late-spec =

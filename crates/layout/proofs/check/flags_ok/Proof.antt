@@ -2,14 +2,13 @@ use denote.Ref.{now}
 use mathlib.Core.Path.{_≡_, refl, sym, ap, _∙_}
 use mathlib.Core.Bool.{Bool, true, false, cond, _&&_}
 use mathlib.Core.List.{List}
-use Prim.Native.Nat.{ℕ, _+_, _-_, _≤_, _<_}
-use native.Mathlib.Numerals.{add-one}
+use Prim.Native.Nat.{ℕ, _+_, _-_, _≤_}
 use native.Mathlib.Omega.{arith}
 use borrow.Author.Needs.{needs}
 use lib.Dec.{eqb}
 use Rattle.lists.specs.Lists.{bit, countBelow}
 use Rattle.lists.proofs.Tests.{bit-le}
-use Rattle.lists.proofs.Count.{Tested, tested-start, tested-next, tested-all, countBelow-le}
+use Rattle.lists.proofs.Count.{Tested, count-next, tested-start, tested-next, tested-all, countBelow-le}
 use Rattle.tables.specs.Sizes.{threads}
 use Rattle.layout.specs.Check.{flagsFit, agrees, waits}
 use Rattle.layout.proofs.check.flags_ok.Statement.{statement}
@@ -25,10 +24,6 @@ record Going (b place : List ℕ) (ok : Bool) (n i : ℕ) : Type 0 where
 as-bit : (t : Bool) → cond t 1 0 ≡ bit t
 as-bit true = refl
 as-bit false = refl
-
-count-next : (i : ℕ) (f : ℕ → Bool) → countBelow (i + 1) f ≡ countBelow i f + bit (f i)
-unfolding countBelow
-count-next i f = ap (λ n. countBelow n f) (add-one i)
 
 abbrev Inv-loop : tie.InvT-loop
 Inv-loop b count place ok₀ n₀ i₀ ok n i = Going b place ok n i

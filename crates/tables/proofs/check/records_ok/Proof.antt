@@ -2,13 +2,12 @@ use mathlib.Core.Path.{_≡_, refl, sym, ap, _∙_}
 use mathlib.Core.Bool.{Bool, _&&_, Bool·beq, and-assoc, and-comm}
 use mathlib.Core.List.{List}
 use Prim.Native.Nat.{ℕ, _+_, _-_}
-use native.Mathlib.Numerals.{add-one}
 use lib.Dec.{eqb}
 use native.Mathlib.Omega.{arith}
 use borrow.Author.Needs.{needs}
 use lib.ListN.{length, length-map}
-use Rattle.lists.specs.Lists.{all, bit, everyBelow, countBelow}
-use Rattle.lists.proofs.Count.{Tested, countBelow-le, tested-start, tested-next, tested-all, everyBelow-and}
+use Rattle.lists.specs.Lists.{all, everyBelow, countBelow}
+use Rattle.lists.proofs.Count.{Tested, count-next, countBelow-le, tested-start, tested-next, tested-all, everyBelow-and}
 use Rattle.lists.proofs.Tabulate.{all-below}
 use Rattle.tables.specs.declared.State.{State}
 use Rattle.tables.specs.Sizes.{threads}
@@ -30,10 +29,6 @@ waits s t = threadOf s t .waiting
 record Going (s : State) (place : List ℕ) (ok : Bool) (n i : ℕ) : Type 0 where
   tested : Tested threads (good s place) ok i
   counted : n ≡ countBelow i (waits s)
-
-count-next : (i : ℕ) (f : ℕ → Bool) → countBelow (i + 1) f ≡ countBelow i f + bit (f i)
-unfolding countBelow
-count-next i f = ap (λ n. countBelow n f) (add-one i)
 
 abbrev Inv-loop : tie.InvT-loop
 Inv-loop s place now ok₀ n₀ i₀ ok n i = Going s place ok n i

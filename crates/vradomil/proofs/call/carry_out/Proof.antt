@@ -5,7 +5,7 @@ use Prim.Native.Nat.{ℕ}
 use native.Mathlib.Omega.{arith}
 use Rattle.lists.specs.LittleEndian.{Bytes}
 use Rattle.tables.specs.Sizes.{memoryWords}
-use Rattle.tables.specs.Tables.{world, fallAsleep, asleepAt}
+use Rattle.tables.specs.Tables.{world, threadNumber, fallAsleep, asleepAt}
 use Rattle.rules.specs.Answers.{Outcome}
 use Rattle.layout.specs.Layout.{stateAt, tablesBytes, wordsAt, wordsBytes}
 use Rattle.layout.proofs.Exact.{words-exact}
@@ -55,8 +55,28 @@ put-word-requires c κs =
     let g = c .before .before .before .before .pre in
     (g .0 .granted .ready .process, (g .0 .long, λ e. g .0 .granted .second (g .1 .second e)))
 
+cast-column-of : tie.Need-cast-column-of
+cast-column-of c = search needs
+
+column-of-requires : tie.Need-column-of-requires
+column-of-requires c κs = c .before .before .before .before .before .before .before .before .pre .0 .granted .ready .process
+
 take-requires : tie.Need-take-requires
-take-requires c κs = search needs
+take-requires c κs =
+    let n = c .before .before in
+    let g = n .before .before .before .before .before .before .before .before .before in
+    let f = g .pre .1 .fits in
+    let p = g .args .c .process in (
+      g .pre .0 .held,
+      record {
+        process = p;
+        column = λ i h. n .column-of .ensures i h ∙ g .pre .0 .places (threadNumber p i) (omega (arith, g .pre .0 .granted .ready .process));
+        few = f .few;
+        own = f .own;
+        each = f .each;
+        apart = f .apart;
+      },
+    )
 
 same-length-2 : tie.Need-same-length-2
 same-length-2 c = search needs
@@ -67,7 +87,7 @@ same-length-3 c = search needs
 returns-2 : tie.Need-returns-2
 returns-2 c =
     let k = c .before .before in
-    let p = k .before .before .before .before .before in
+    let p = k .before .before .before .before .before .before .before in
     let e = p .before .before in
     let g = e .before .before .before in
     let w = world (stateAt (now (g .args .b))) (wordsAt (now (g .args .words))) in
@@ -89,6 +109,8 @@ carry-out-spec =
     same-length
     returns
     put-word-requires
+    cast-column-of
+    column-of-requires
     take-requires
     same-length-2
     same-length-3

@@ -1,6 +1,7 @@
 use borrow.Author.Needs.{needs}
 use denote.Ref.{now}
-use mathlib.Core.Path.{sym, _∙_}
+use mathlib.Core.Path.{sym, ap, _∙_}
+use Rattle.tables.specs.declared.Thread.{Thread}
 use Rattle.rules.specs.Answers.{first}
 use Rattle.rules.specs.Calls.{callRows}
 use Rattle.refusals.proofs.Read.{own-verdict}
@@ -13,8 +14,8 @@ use Rattle.vradomil.proofs.call.judge.Tie as tie
 thread-index-requires : tie.Need-thread-index-requires
 thread-index-requires c κs = search needs
 
-thread-at-requires : tie.Need-thread-at-requires
-thread-at-requires c κs = search needs
+waits-at-requires : tie.Need-waits-at-requires
+waits-at-requires c κs = search needs
 
 word-index-requires : tie.Need-word-index-requires
 word-index-requires c κs = search needs
@@ -39,10 +40,10 @@ returns c =
     let b = now (g .args .tables) in
     let ws = wordsAt (now (g .args .words)) in
     let x = t .thread-index .result in
-    let thread = r .thread-at .ensures ∙ sym (thread-read b x (thread-below _ _ (t .thread-index .ensures))) in
+    let waits = r .waits-at .ensures ∙ ap (λ (y : Thread). y .waiting) (sym (thread-read b x (thread-below _ _ (t .thread-index .ensures)))) in
     let clock = k .u64-at .ensures .0 ∙ clock-read b in
     c .verdict-on .ensures
-    ∙ (λ j. first (callRows (g .args .c) (thread j .waiting) (clock j) (w .word-at .ensures j)))
+    ∙ (λ j. first (callRows (g .args .c) (waits j) (clock j) (w .word-at .ensures j)))
     ∙ own-verdict (g .args .c) (stateAt b) ws x (i .word-index .result) (t .thread-index .ensures) (i .word-index .ensures)
 
 pub judge-spec : {M : Type 1} → statement M
@@ -50,7 +51,7 @@ judge-spec =
     tie.close
     (tie.spec
     thread-index-requires
-    thread-at-requires
+    waits-at-requires
     word-index-requires
     word-at-requires
     u64-at-requires

@@ -10,6 +10,7 @@ use Rattle.rules.specs.Calls.{oldWord}
 use Rattle.commands.proofs.Places.{word-there}
 use Rattle.layout.specs.Layout.{stateAt, wordsAt}
 use Rattle.layout.proofs.Reading.{clock-read}
+use Rattle.views.proofs.Ordering.{views-small}
 use Rattle.vradomil.proofs.call.plan_at.Statement.{statement}
 use Rattle.vradomil.proofs.call.plan_at.Tie as tie
 
@@ -45,7 +46,11 @@ word-at-requires : tie.Need-word-at-requires
 word-at-requires c κs = search needs
 
 take-plan-requires : tie.Need-take-plan-requires
-take-plan-requires c κs = search needs
+take-plan-requires c κs =
+    let v = c .before .before in
+    let g = v .before .before .before .before .before .before in
+    let s = stateAt (now (g .args .b)) in
+    (g .pre .granted .ready .process, views-small (g .args .c .process) s (v .view-at .result) (g .pre .granted .ready .tables) (v .view-at .ensures))
 
 returns-2 : tie.Need-returns-2
 returns-2 c =

@@ -21,7 +21,7 @@ use Rattle.layout.specs.Check.{Held}
 use Rattle.layout.proofs.Reading.{clock-read}
 use Rattle.vradomil.specs.Host.{seen, EventFits}
 use Rattle.vradomil.proofs.Steps.{read-back, event-refused, event-passed, changes-tables-refused, changes-tables-done}
-use Rattle.vradomil.proofs.Clocks.{clock-calm, due-numbers, clock-due}
+use Rattle.vradomil.proofs.Clocks.{due-few, clock-due}
 use borrow.Author.Needs.{needs}
 use Rattle.vradomil.proofs.event.vradomil_clock.Statement.{statement}
 use Rattle.vradomil.proofs.event.vradomil_clock.Tie as tie
@@ -63,15 +63,14 @@ granted c =
     let early : ltb (g .args .time) (tablesAt (now (g .args .tables)) .clock) ≡ false = sym (ap (ltb (g .args .time)) (clock k)) ∙ le-ltb (g .args .time) (k .u64-at .result) (c .if1 .left) in
     own p ∙ rw early
 
--- where somebody may be due, the place behind the first two rows
-abbrev behind : tie.After-due → tie.After-enum-told
-behind c = c .before .before .before .before .before .before .before
+-- the place behind the first two rows
+abbrev behind : tie.After-end-due → tie.After-enum-told
+behind c = c .before .before .before .before .before
 
-few : (c : tie.After-end-split) → c .end-split .result ≤ threads
+few : (c : tie.After-end-due) → c .end-due .result ≤ threads
 few c =
-    let d = c .before .before in
-    let g = start (behind d .before .before) in
-    omega (arith, c .end-split .ensures .0, due-numbers (now (g .args .tables)) (held (behind d)) (g .args .time) (d .due .result) (d .due .ensures) .few)
+    let g = start (behind c .before .before) in
+    omega (arith, c .end-due .ensures .0, due-few (now (g .args .tables)) (held (behind c)) (g .args .time))
 
 judge-buffers-requires : tie.Need-judge-buffers-requires
 judge-buffers-requires c κs = search needs
@@ -104,70 +103,42 @@ returns c =
     changes-tables-refused (event g) b (now (g .args .words)) _ (EINVAL because ClockBack) (own p ∙ rw early)
     (read-back (c .refusal2 .ensures)) (fits g)
 
+end-due-requires : tie.Need-end-due-requires
+end-due-requires c κs = held (c .before .before .before .before)
+
 put-u64-requires : tie.Need-put-u64-requires
-put-u64-requires c κs = omega (arith, held (c .before .before .before .before .before .before) .size)
+put-u64-requires c κs =
+    let e = c .before .before .before in
+    omega (arith, e .end-due .kept .0, held (behind e) .size)
+
+cast-result : tie.Need-cast-result
+cast-result c = record { sfits = omega (arith, few (c .before .before .before .before .before .before)) }
 
 same-length-2 : tie.Need-same-length-2
 same-length-2 c = search needs
 
 returns-2 : tie.Need-returns-2
-unfolding effect
 returns-2 c =
-    let u = c .before .before in
-    let i = u .before .before in
-    let o = i .before .before in
-    let p = o .before .before .before in
-    let l = p .before .before in
-    let g = start l in
-    let b = now (g .args .tables) in
-    let m = now (g .args .words) in
-    let none = l .judge-buffers .ensures .calm (p .enum-told .given .1) (g .args .time) (i .if2 .taken) in
-    changes-tables-done (event g) b m _ 0 _ (held p) (granted o) refl (clock-calm b (held p) (g .args .time) (wordsAt m) _ none (u .put-u64 .ensures)) (fits g)
-
-due-requires : tie.Need-due-requires
-due-requires c κs = held (c .before .before .before .before .before .before)
-
-end-split-requires : tie.Need-end-split-requires
-end-split-requires c κs =
-    let d = c .before in
-    let p = behind d in
-    let g = start (p .before .before) in
-    (held p .size, due-numbers (now (g .args .tables)) (held p) (g .args .time) (d .due .result) (d .due .ensures))
-
-put-u64-requires-2 : tie.Need-put-u64-requires-2
-put-u64-requires-2 c κs =
-    let e = c .before .before .before in
-    omega (arith, e .end-split .kept .0, held (behind (e .before .before)) .size)
-
-cast-result : tie.Need-cast-result
-cast-result c = record { sfits = omega (arith, few (c .before .before .before .before .before .before)) }
-
-same-length-3 : tie.Need-same-length-3
-same-length-3 c = search needs
-
-returns-3 : tie.Need-returns-3
-returns-3 c =
     let l = c .before .before .before .before in
     let g = start l in
     changes-tables-refused (event g) (now (g .args .tables)) (now (g .args .words)) _ _ (event-refused (event g) (now (g .args .tables)) (now (g .args .words)) (l .judge-buffers .result) (l .judge-buffers .ensures) refl _ (c .before .before .v .given .1))
     (read-back (c .refusal .ensures)) (fits g)
 
-same-length-4 : tie.Need-same-length-4
-same-length-4 c = search needs
+same-length-3 : tie.Need-same-length-3
+same-length-3 c = search needs
 
-returns-4 : tie.Need-returns-4
+returns-3 : tie.Need-returns-3
 unfolding effect
-returns-4 c =
+returns-3 c =
     let u = c .before .before in
     let e = u .before .before .before .before in
-    let d = e .before .before in
-    let o = d .before .before .before .before in
+    let o = e .before .before in
     let p = o .before .before .before in
     let g = start (p .before .before) in
     let b = now (g .args .tables) in
     let m = now (g .args .words) in
-    changes-tables-done (event g) b m _ (e .end-split .result) _ (held p) (granted o) (toZ-pos w32 {n = e .end-split .result} (omega (arith, few e)))
-    (clock-due b (held p) (g .args .time) (d .due .result) (d .due .ensures) (wordsAt m) (e .end-split .result) (e .end-split .last .0) _ (e .end-split .ensures) (u .put-u642 .ensures)) (fits g)
+    changes-tables-done (event g) b m _ (e .end-due .result) _ (held p) (granted o) (toZ-pos w32 {n = e .end-due .result} (omega (arith, few e)))
+    (clock-due b (held p) (g .args .time) (wordsAt m) (e .end-due .result) (e .end-due .last .0) _ (e .end-due .ensures) (u .put-u64 .ensures)) (fits g)
 
 pub vradomil-clock-spec : {M : Type 1} → statement M
 vradomil-clock-spec =
@@ -181,14 +152,10 @@ vradomil-clock-spec =
     refusal-requires-2
     same-length
     returns
+    end-due-requires
     put-u64-requires
+    cast-result
     same-length-2
     returns-2
-    due-requires
-    end-split-requires
-    put-u64-requires-2
-    cast-result
     same-length-3
-    returns-3
-    same-length-4
-    returns-4)
+    returns-3)

@@ -17,7 +17,7 @@ use Rattle.layout.specs.Layout.{stateAt, wordsAt}
 use Rattle.layout.specs.Check.{Held}
 use Rattle.vradomil.specs.Host.{seen, EventFits, Leaves}
 use Rattle.vradomil.proofs.Steps.{read-back, event-refused, event-passed, changes-tables-refused, changes-tables-done}
-use Rattle.vradomil.proofs.Clocks.{interrupt-none, one-taken, interrupt-one}
+use Rattle.vradomil.proofs.Clocks.{interrupt-none, one-stands, interrupt-one}
 use Rattle.commands.proofs.Places.{thread-below, thread-there}
 use borrow.Author.Needs.{needs}
 use Rattle.vradomil.proofs.event.vradomil_interrupt.Statement.{statement}
@@ -114,19 +114,16 @@ returns-2 c =
     (subst (λ (q : ℕ). Leaves (interruptEffect q (world (stateAt b) (wordsAt m))) 0 b) (there t)
     (interrupt-none b (held p) (p .before .before .judge-buffers .result .place) (places p) (t .thread-index .result) (low t) (wordsAt m) (c .if2 .taken))) (fits g)
 
-cast-one : tie.Need-cast-one
-cast-one c = search needs
+array-read-end-one : tie.Need-array-read-end-one
+array-read-end-one c = search needs
 
-array-write-one : tie.Need-array-write-one
-array-write-one c = search needs
-
-take-requires : tie.Need-take-requires
-take-requires c κs =
+end-one-requires : tie.Need-end-one-requires
+end-one-requires c κs =
     let o = c .before in
     let t = o .before .before in
     let p = t .before .before .before in
     let g = start (p .before .before) in
-    (held p, one-taken (now (g .args .tables)) (held p) (p .before .before .judge-buffers .result .place) (places p) (t .thread-index .result) (low t) (o .if2 .left) _)
+    (held p, one-stands (now (g .args .tables)) (held p) (p .before .before .judge-buffers .result .place) (places p) (t .thread-index .result) (low t) (o .if2 .left))
 
 same-length-3 : tie.Need-same-length-3
 same-length-3 c = search needs
@@ -153,8 +150,8 @@ returns-4 c =
     let m = now (g .args .words) in
     let x = t .thread-index .result in
     changes-tables-done (event g) b m _ 1 _ (held p) (granted (t .before)) refl
-    (subst (λ (q : ℕ). Leaves (interruptEffect q (world (stateAt b) (wordsAt m))) 1 (k .take .last .0)) (there t)
-    (interrupt-one b (held p) (p .before .before .judge-buffers .result .place) (places p) x (low t) (o .if2 .left) (wordsAt m) (k .take .last .0) (k .take .ensures))) (fits g)
+    (subst (λ (q : ℕ). Leaves (interruptEffect q (world (stateAt b) (wordsAt m))) 1 (k .end-one .last .0)) (there t)
+    (interrupt-one b (held p) (p .before .before .judge-buffers .result .place) (places p) x (low t) (o .if2 .left) (wordsAt m) (k .end-one .last .0) (k .end-one .ensures))) (fits g)
 
 pub vradomil-interrupt-spec : {M : Type 1} → statement M
 vradomil-interrupt-spec =
@@ -172,9 +169,8 @@ vradomil-interrupt-spec =
     array-read-if2
     same-length-2
     returns-2
-    cast-one
-    array-write-one
-    take-requires
+    array-read-end-one
+    end-one-requires
     same-length-3
     returns-3
     same-length-4

@@ -1,0 +1,55 @@
+-- Threads copied into a list, and what is left of a list whose first entries are those of another.
+use mathlib.Core.Path.{_≡_, refl, sym, ap, _∙_}
+use mathlib.Core.Bool.{true}
+use mathlib.Core.List.{List, [], _∷_, _++_}
+use Prim.Native.Nat.{ℕ, _+_, _≤_, _<_}
+use native.Mathlib.Numerals.{add-one}
+use native.Mathlib.Omega.{arith}
+use lib.ListN.{length, take, drop, getD, set, length-set}
+use lib.Seq.{take-suc, take-suc-set, take-take, take-add, drop-at, length-take-le, getD-take}
+use lib.Dec.{ltb}
+use borrow.Author.Tests.{ltb-true}
+use Rattle.lists.specs.Lists.{all}
+use Rattle.lists.proofs.Occurs.{elem-all, elem-getD}
+
+-- The first i of ts are copied.
+pub record Copied (ts list : List ℕ) (n i : ℕ) : Type 0 where
+  pub within : i ≤ n
+  pub fits : n ≤ length list
+  pub done : take i list ≡ take i ts
+
+pub copied-start : (ts list : List ℕ) (n : ℕ) → n ≤ length list → Copied ts list n 0
+copied-start ts list n fits = record { within = omega arith; fits = fits; done = refl }
+
+pub copied-next : (ts list : List ℕ) (n i : ℕ) → Copied ts list n i → i < n → n ≤ length ts → Copied ts (set list i (getD ts i 0)) n (i + 1)
+copied-next ts list n i g more long =
+    record {
+      within = omega arith;
+      fits = omega (arith, g .fits, length-set list i (getD ts i 0));
+      done =
+          ap (λ k. take k (set list i (getD ts i 0))) (add-one i)
+          ∙ take-suc-set list i (getD ts i 0) (omega (arith, g .fits))
+          ∙ ap (_++ (getD ts i 0 ∷ [])) (g .done)
+          ∙ sym (ap (λ k. take k ts) (add-one i) ∙ take-suc ts i 0 (omega arith));
+    }
+
+pub copied-all : (ts list : List ℕ) (n i : ℕ) → Copied ts list n i → n ≤ i → take n list ≡ take n ts
+copied-all ts list n i g end = let e : i ≡ n = omega (arith, g .within) in sym (ap (λ k. take k list) e) ∙ g .done ∙ ap (λ k. take k ts) e
+
+-- one of the first n numbers that are below a bound
+pub low-entry : (ts : List ℕ) (n i b : ℕ) → n ≤ length ts → all (λ t. ltb t b) (take n ts) ≡ true → i < n → getD ts i 0 < b
+low-entry ts n i b long low h =
+    let at : getD (take n ts) i 0 ≡ getD ts i 0 = getD-take n ts i 0 h in
+    let below = ltb-true (getD (take n ts) i 0) b (elem-all (λ t. ltb t b) (take n ts) low (getD (take n ts) i 0) (elem-getD (take n ts) i 0 (omega (arith, length-take-le n ts long)))) in
+    omega arith
+
+-- where the first n + m agree, so do the first n and the next m
+module _ (l ts : List ℕ) (n m : ℕ) (same : take (n + m) l ≡ take (n + m) ts) (a : n + m ≤ length l) (b : n + m ≤ length ts) where
+  pub same-first : take n l ≡ take n ts
+  same-first = sym (take-take n (n + m) l (omega arith)) ∙ ap (take n) same ∙ take-take n (n + m) ts (omega arith)
+
+  pub same-next : take m (drop n l) ≡ take m (drop n ts)
+  same-next =
+      sym (drop-at (take n l) (take m (drop n l)) n (length-take-le n l (omega arith)))
+      ∙ ap (drop n) (sym (take-add n m l) ∙ same ∙ take-add n m ts)
+      ∙ drop-at (take n ts) (take m (drop n ts)) n (length-take-le n ts (omega arith))
