@@ -1,4 +1,3 @@
-pub mod Flags
 pub mod Places
 pub mod Walking
 pub mod TakingOut

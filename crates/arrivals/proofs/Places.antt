@@ -66,10 +66,6 @@ place-names t (x ∷ l) e = cases (elem t l)
     let here : placeOf t (x ∷ l) - 1 ≡ 0 = omega (arith, at-first t x l k, ap bit is) in
     ap (λ j. getD (x ∷ l) j 0) here ∙ sym (eqb-true t x is))
 
--- two numbers stand at two places
-pub places-apart : (t u : ℕ) (l : List ℕ) → elem t l ≡ true → elem u l ≡ true → placeOf t l ≡ placeOf u l → t ≡ u
-places-apart t u l d e same = sym (place-names t l d) ∙ ap (λ p. getD l (p - 1) 0) same ∙ place-names u l e
-
 -- In a list of different numbers: one is taken out.
 module _ (t : ℕ) where
   differ : (x : ℕ) (l : List ℕ) → distinct (x ∷ l) ≡ true → elem t l ≡ true → eqb x t ≡ false

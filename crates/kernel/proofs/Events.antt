@@ -11,6 +11,7 @@ use lib.ListN.{length, set, replicate}
 use lib.Dec.{eqb, ltb, leb}
 use borrow.Author.Tests.{ltb-true, ltb-false, lt-leb, le-leb}
 use Rattle.lists.specs.Lists.{filter, bit}
+use Rattle.lists.proofs.Loops.{stored-at}
 use Rattle.lists.proofs.Tests.{cases, clash, and-intro, and-left, and-right, bit-choice, eqb-refl}
 use Rattle.lists.proofs.Filter.{getD-replicated}
 use Rattle.lists.proofs.Occurs.{filter-same}
@@ -24,7 +25,6 @@ use Rattle.tables.specs.Steps.{Flags, flagged, endFlagged}
 use Rattle.rules.specs.Answers.{answered}
 use Rattle.rules.specs.Events.{bitsBelow, waitingSet, clockEffect, interruptEffect}
 use Rattle.tables.proofs.Sound.{Sound}
-use Rattle.arrivals.proofs.Flags.{flags-set}
 use Rattle.tables.proofs.Stored.{end-nobody, flagged-listed}
 
 -- the clock: everybody whose deadline has come
@@ -45,7 +45,7 @@ due-flagged now s g flags h = flagged-listed s g flags (λ t. expired now (threa
 
 -- an interrupt: the thread, if it is listed
 one-flag : (t : ℕ) → t < threads → Flags (set (replicate threads false) t true) (λ u. eqb u t)
-one-flag t low u h = flags-set (replicate threads false) (λ u. eqb u t) t true low (sym (eqb-refl t)) u (λ e. getD-replicated threads u false ∙ sym e)
+one-flag t low u h = stored-at (replicate threads false) false (λ u. eqb u t) t true low (sym (eqb-refl t)) u (λ e. getD-replicated threads u false ∙ sym e)
 
 pub interrupt-ends : (t : ℕ) (s : State) (ws : List ℕ) → Sound s → t < threads → (taken : Taken)
     → taken ≡ endFlagged Interrupted (flagged (set (replicate threads false) t true)) s

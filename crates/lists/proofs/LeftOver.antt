@@ -1,38 +1,16 @@
 -- What is taken from a list, the first n elements that pass a test, and what is left over.
 use mathlib.Core.Path.{_≡_, refl, sym, ap, _∙_}
-use mathlib.Core.Bool.{Bool, true, false, _&&_}
+use mathlib.Core.Bool.{Bool}
 use mathlib.Core.List.{List, [], _∷_}
 use Prim.Native.Nat.{ℕ, zero, suc, _+_, _≤_}
 use native.Mathlib.Omega.{arith}
 use lib.ListN.{length, take, drop}
 use lib.Seq.{take-nil, drop-nil}
-use lib.Dec.{eqb, ltb}
-use borrow.Author.Tests.{lt-ltb}
+use lib.Dec.{eqb}
 use Rattle.lists.specs.Lists.{filter, elem, without, leftOver, bit}
-use Rattle.lists.proofs.Tests.{cases, clash, eqb-refl, eqb-sym}
+use Rattle.lists.proofs.Tests.{cases, eqb-refl, eqb-sym}
 use Rattle.lists.proofs.Filter.{filter-true}
 use Rattle.lists.proofs.Occurs.{occurs, occurs-absent, occurs-take-le, occurs-filter-le}
-
--- where nothing may be taken, all is left
-pub leftOver-none : {A : Type 0} (f : A → Bool) (l : List A) → leftOver f zero l ≡ l
-leftOver-none f [] = refl
-leftOver-none f (x ∷ xs) = refl
-
--- an element that is taken, and one that is left
-module _ {A : Type 0} (f : A → Bool) (x : A) (xs : List A) where
-  pub taken-one : (m : ℕ) → f x ≡ true → take (suc m) (filter f (x ∷ xs)) ≡ x ∷ take m (filter f xs)
-  taken-one m e = cc
-
-  pub leftOver-taken : (m : ℕ) → f x ≡ true → leftOver f (suc m) (x ∷ xs) ≡ leftOver f m xs
-  leftOver-taken m e = cc
-
-  pub taken-none : (m : ℕ) → (f x && ltb 0 m) ≡ false → take m (filter f (x ∷ xs)) ≡ take m (filter f xs)
-  taken-none zero e = refl
-  taken-none (suc m) e = cases (f x) (λ d. clash true refl (cc (lt-ltb 0 (suc m) (omega arith)))) (λ d. cc)
-
-  pub leftOver-kept : (m : ℕ) → (f x && ltb 0 m) ≡ false → leftOver f m (x ∷ xs) ≡ x ∷ leftOver f m xs
-  leftOver-kept zero e = ap (x ∷_) (sym (leftOver-none f xs))
-  leftOver-kept (suc m) e = cases (f x) (λ d. clash true refl (cc (lt-ltb 0 (suc m) (omega arith)))) (λ d. cc)
 
 -- In a list without repeats, the first n that pass, taken out as numbers, leave what is left over.
 without-absent : (x : ℕ) (ts l : List ℕ) → occurs x l ≡ 0 → without (x ∷ ts) l ≡ without ts l

@@ -6,7 +6,7 @@ use Prim.Native.Nat.{ℕ, suc, _+_, _-_, _≤_, _<_}
 use native.Mathlib.Numerals.{add-one}
 use native.Mathlib.Omega.{arith}
 use lib.ListN.{length, take, drop, getD, set, replicate, length-append, length-set}
-use lib.Seq.{take-all, take-suc, take-suc-set, drop-cons, set-append-seam, append-snoc, getD-set-same, getD-set-other}
+use lib.Seq.{take-suc, take-suc-set, drop-cons, set-append-seam, append-snoc, getD-set-same, getD-set-other}
 use lib.Dec.{eqb}
 use borrow.Author.Tests.{eqb-true, eqb-false}
 use Rattle.lists.specs.Lists.{all, elem, distinct, padTo}
@@ -20,27 +20,29 @@ module _ {A : Type 0} where
   pub drop-next : (l : List A) (j : ℕ) (d : A) → j < length l → drop j l ≡ getD l j d ∷ drop (j + 1) l
   drop-next l j d h = rw add-one (drop-cons l j d h)
 
-  -- A loop that copies the first n elements of ys has copied i.
-  pub record Copied (ys : List A) (n : ℕ) (xs : List A) (i : ℕ) : Type 0 where
+  -- A loop that copies the first n elements of ys into a list of m has copied i.
+  pub record Copied (ys : List A) (n m : ℕ) (xs : List A) (i : ℕ) : Type 0 where
     pub within : i ≤ n
-    pub long : length xs ≡ n
+    pub fits : n ≤ m
+    pub long : length xs ≡ m
     pub done : take i xs ≡ take i ys
 
-  pub copied-start : (ys : List A) (n : ℕ) (xs : List A) → length xs ≡ n → Copied ys n xs 0
-  copied-start ys n xs h = record { within = omega arith; long = h; done = refl }
+  module _ (ys : List A) (n m : ℕ) where
+    pub copied-start : (xs : List A) → n ≤ m → length xs ≡ m → Copied ys n m xs 0
+    copied-start xs h k = record { within = omega arith; fits = h; long = k; done = refl }
 
-  pub copied-next : (ys : List A) (n : ℕ) (xs : List A) (i : ℕ) (v d : A) → Copied ys n xs i → i < n → n ≤ length ys → v ≡ getD ys i d
-      → Copied ys n (set xs i v) (i + 1)
-  copied-next ys n xs i v d g more fits is =
-      record {
-        within = omega arith;
-        long = length-set xs i v ∙ g .long;
-        done = ap (λ m. take m (set xs i v)) (add-one i) ∙ take-suc-set xs i v (omega (arith, g .long)) ∙ (λ k. g .done k ++ (is k ∷ []))
-            ∙ sym (take-next ys i d (omega arith));
-      }
+    pub copied-next : (xs : List A) (i : ℕ) (v d : A) → Copied ys n m xs i → i < n → n ≤ length ys → v ≡ getD ys i d → Copied ys n m (set xs i v) (i + 1)
+    copied-next xs i v d g more enough is =
+        record {
+          within = omega arith;
+          fits = g .fits;
+          long = length-set xs i v ∙ g .long;
+          done = ap (λ k. take k (set xs i v)) (add-one i) ∙ take-suc-set xs i v (omega (arith, g .fits, g .long)) ∙ (λ k. g .done k ++ (is k ∷ []))
+              ∙ sym (take-next ys i d (omega arith));
+        }
 
-  pub copied-all : (ys : List A) (n : ℕ) (xs : List A) (i : ℕ) → Copied ys n xs i → n ≤ i → xs ≡ take n ys
-  copied-all ys n xs i g end = let e : i ≡ n = omega (arith, g .within) in sym (take-all n xs (omega (arith, g .long))) ∙ rw e at (g .done)
+    pub copied-all : (xs : List A) (i : ℕ) → Copied ys n m xs i → n ≤ i → take n xs ≡ take n ys
+    copied-all xs i g end = let e : i ≡ n = omega (arith, g .within) in rw e at (g .done)
 
   -- one element more of a list that is filled from the front
   pub fill-next : (xs rest whole : List A) (i : ℕ) (v : A) → i < length xs → whole ≡ take i xs ++ (v ∷ rest) → whole ≡ take (i + 1) (set xs i v) ++ rest
@@ -71,6 +73,23 @@ module _ {A : Type 0} where
   pub stored-next : (l : List A) (d : A) (f : ℕ → A) (i : ℕ) (v : A) → i < length l → ((t : ℕ) → t < i → getD l t d ≡ f t) → v ≡ f i
       → (t : ℕ) → t < i + 1 → getD (set l i v) t d ≡ f t
   stored-next l d f i v h done is t b = stored-at l d f i v h is t (λ e. done t (lt-of-le-ne t i (omega arith) e))
+
+  -- A loop that fills a list of n elements by index has filled those below i.
+  pub record Filled (n : ℕ) (d : A) (f : ℕ → A) (l : List A) (i : ℕ) : Type 0 where
+    pub within : i ≤ n
+    pub size : length l ≡ n
+    pub done : (t : ℕ) → t < i → getD l t d ≡ f t
+
+  module _ {n : ℕ} {d : A} where
+    pub filled-start : (f : ℕ → A) (l : List A) → length l ≡ n → Filled n d f l 0
+    filled-start f l h = record { within = omega arith; size = h; done = λ t k. absurd (omega arith) }
+
+    pub filled-next : (f : ℕ → A) (l : List A) (i : ℕ) (v : A) → Filled n d f l i → i < n → v ≡ f i → Filled n d f (set l i v) (i + 1)
+    filled-next f l i v g more is =
+        record { within = omega arith; size = length-set l i v ∙ g .size; done = stored-next l d f i v (omega (arith, g .size)) (g .done) is }
+
+    pub filled-all : (f : ℕ → A) (l : List A) (i : ℕ) → Filled n d f l i → n ≤ i → (t : ℕ) → t < n → getD l t d ≡ f t
+    filled-all f l i g end t h = g .done t (omega arith)
 
   -- a test of every element
   pub all-snoc : (f : A → Bool) (l : List A) (x : A) → all f (l ++ (x ∷ [])) ≡ (all f l && f x)

@@ -20,7 +20,6 @@ use Rattle.tables.specs.Editions.{present}
 use Rattle.tables.specs.Tables.{outside, World, threadNumber, processOf, wordNumber, wordAt, freshThread, threadOf, arrivals, change, ended, movedTo, withArrivals, withThreads, withClock, withPriority, endIn, endSleeps, moveIn, moveSleeps, sleepIn, fallAsleep, setPriority, writeWord, withState}
 use Rattle.tables.proofs.Changes.{arrivals-with, change-none}
 use Rattle.tables.proofs.Sound.{Sound, fresh-ok, sound-with}
-use Rattle.tables.proofs.Flags.{process-own}
 use Rattle.rules.proofs.Preserved.{Valid}
 
 -- thread t, and word number i, are process p's
@@ -64,7 +63,7 @@ module _ {A : Type 0} (own : ℕ → Bool) (d : A) where
 
 -- whose a thread and a word are
 pub own-thread : (p i : ℕ) → i < threadsPerProcess → ownThread p (threadNumber p i) ≡ true
-own-thread p i h = process-own p i h
+own-thread p i h = eq-eqb (processOf (threadNumber p i)) p (omega arith)
 
 own-word : (p a : ℕ) → outside a ≡ false → ownWord p (wordNumber p a) ≡ true
 own-word p a h = eq-eqb (wordNumber p a / wordsPerProcess) p (let k = leb-false bytesPerProcess a h in omega arith)

@@ -3,5 +3,4 @@ pub mod Changes
 pub mod Sound
 pub mod Kept
 pub mod Stored
-pub mod Flags
 pub mod Checked

@@ -53,10 +53,6 @@ module _ (s : State) (g : Sound s) where
     abbrev found : List ℕ
     found = filter f (arrivals s)
 
-    split-few : x .n ≤ threads
-    unfolding splitOf
-    split-few = rw is (omega (arith, length-filter f (arrivals s), arrivals-fit s g))
-
     pub split-numbers : Numbers (x .taken) (x .n)
     unfolding splitOf
     split-numbers = rw is (stored-numbers found (omega (arith, length-filter f (arrivals s), arrivals-fit s g)) (all-filtered (λ t. ltb t threads) f (arrivals s) (all-low s g)))

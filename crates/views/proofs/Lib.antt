@@ -1,4 +1,4 @@
-pub mod Filling
+pub mod Ranking
 pub mod Ordering
 pub mod Viewing
 pub mod Theorems

@@ -18,7 +18,7 @@ use Rattle.tables.specs.Tables.{threadNumber, threadOf, arrivals}
 use Rattle.tables.specs.Steps.{placeOf, Places}
 use Rattle.tables.proofs.Sound.{Sound, once, listed-waiting, arrivals-fit}
 use Rattle.views.specs.Views.{Views}
-use Rattle.views.proofs.Filling.{Filling, filling-start, filling-next, filling-all}
+use Rattle.lists.proofs.Loops.{Filled, filled-start, filled-next, filled-all}
 use Rattle.views.proofs.Ordering.{views-places}
 
 -- a thread that has a place is one of the list
@@ -29,20 +29,20 @@ has-place t l = cases (elem t l)
 
 -- The first i threads of process p are read.
 pub record Viewing (r : ℕ → Thread) (place : List ℕ) (p : ℕ) (at uaddr bitset priority : List ℕ) (i : ℕ) : Type 0 where
-  pub places : Filling (λ j. getD place (threadNumber p j) 0) at i
-  pub addresses : Filling (λ j. r (threadNumber p j) .uaddr) uaddr i
-  pub masks : Filling (λ j. r (threadNumber p j) .bitset) bitset i
-  pub priorities : Filling (λ j. r (threadNumber p j) .priority) priority i
+  pub places : Filled threadsPerProcess 0 (λ j. getD place (threadNumber p j) 0) at i
+  pub addresses : Filled threadsPerProcess 0 (λ j. r (threadNumber p j) .uaddr) uaddr i
+  pub masks : Filled threadsPerProcess 0 (λ j. r (threadNumber p j) .bitset) bitset i
+  pub priorities : Filled threadsPerProcess 0 (λ j. r (threadNumber p j) .priority) priority i
 
 module _ (r : ℕ → Thread) (place : List ℕ) (p : ℕ) where
   pub viewing-start : (at uaddr bitset priority : List ℕ) → length at ≡ threadsPerProcess → length uaddr ≡ threadsPerProcess → length bitset ≡ threadsPerProcess
       → length priority ≡ threadsPerProcess → Viewing r place p at uaddr bitset priority 0
   viewing-start at uaddr bitset priority w x y z =
       record {
-        places = filling-start _ at w;
-        addresses = filling-start _ uaddr x;
-        masks = filling-start _ bitset y;
-        priorities = filling-start _ priority z;
+        places = filled-start _ at w;
+        addresses = filled-start _ uaddr x;
+        masks = filled-start _ bitset y;
+        priorities = filled-start _ priority z;
       }
 
   pub viewing-next : (at uaddr bitset priority : List ℕ) (i k a m n : ℕ) → Viewing r place p at uaddr bitset priority i → i < threadsPerProcess
@@ -51,10 +51,10 @@ module _ (r : ℕ → Thread) (place : List ℕ) (p : ℕ) where
       → Viewing r place p (set at i k) (set uaddr i a) (set bitset i m) (set priority i n) (i + 1)
   viewing-next at uaddr bitset priority i k a m n g more w x y z =
       record {
-        places = filling-next (λ j. getD place (threadNumber p j) 0) at i k (g .places) more w;
-        addresses = filling-next (λ j. r (threadNumber p j) .uaddr) uaddr i a (g .addresses) more x;
-        masks = filling-next (λ j. r (threadNumber p j) .bitset) bitset i m (g .masks) more y;
-        priorities = filling-next (λ j. r (threadNumber p j) .priority) priority i n (g .priorities) more z;
+        places = filled-next (λ j. getD place (threadNumber p j) 0) at i k (g .places) more w;
+        addresses = filled-next (λ j. r (threadNumber p j) .uaddr) uaddr i a (g .addresses) more x;
+        masks = filled-next (λ j. r (threadNumber p j) .bitset) bitset i m (g .masks) more y;
+        priorities = filled-next (λ j. r (threadNumber p j) .priority) priority i n (g .priorities) more z;
       }
 
   pub viewing-all : (s : State) → Sound s → ((t : ℕ) → t < threads → r t ≡ threadOf s t) → p < processes → Places place (arrivals s)
@@ -66,13 +66,13 @@ module _ (r : ℕ → Thread) (place : List ℕ) (p : ℕ) where
         few = λ j l. omega (arith, stands j l, place-most (threadNumber p j) (arrivals s), arrivals-fit s sound);
         rising = views-places p s (record { place = at; uaddr = uaddr; bitset = bitset; priority = priority }) (λ t. placeOf t (arrivals s)) stands
             (rising-places (arrivals s) (occurs-distinct (arrivals s) (once s sound)));
-        addresses = λ j l. filling-all _ uaddr i (g .addresses) end j l ∙ ap (λ (x : Thread). x .uaddr) (same (threadNumber p j) (low j l));
-        masks = λ j l. filling-all _ bitset i (g .masks) end j l ∙ ap (λ (x : Thread). x .bitset) (same (threadNumber p j) (low j l));
-        priorities = λ j l. filling-all _ priority i (g .priorities) end j l ∙ ap (λ (x : Thread). x .priority) (same (threadNumber p j) (low j l));
+        addresses = λ j l. filled-all _ uaddr i (g .addresses) end j l ∙ ap (λ (x : Thread). x .uaddr) (same (threadNumber p j) (low j l));
+        masks = λ j l. filled-all _ bitset i (g .masks) end j l ∙ ap (λ (x : Thread). x .bitset) (same (threadNumber p j) (low j l));
+        priorities = λ j l. filled-all _ priority i (g .priorities) end j l ∙ ap (λ (x : Thread). x .priority) (same (threadNumber p j) (low j l));
       }
     where
       low : (j : ℕ) → j < threadsPerProcess → threadNumber p j < threads
       low j l = omega arith
 
       stands : (j : ℕ) → j < threadsPerProcess → getD at j 0 ≡ placeOf (threadNumber p j) (arrivals s)
-      stands j l = filling-all _ at i (g .places) end j l ∙ is (threadNumber p j) (low j l)
+      stands j l = filled-all _ at i (g .places) end j l ∙ is (threadNumber p j) (low j l)

@@ -1,8 +1,8 @@
 -- An event's number and bytes are the rules', by its verdict: refused, or let through.
-use mathlib.Core.Path.{_≡_, refl, sym, ap, subst, subst₂, _∙_}
+use mathlib.Core.Path.{_≡_, refl, sym, ap, subst, _∙_}
 use mathlib.Core.Bool.{false, cond}
-use mathlib.Core.List.{List, [], _++_}
-use Prim.Native.Nat.{ℕ, _≤_}
+use mathlib.Core.List.{List, []}
+use Prim.Native.Nat.{ℕ}
 use lib.IntN.{ℤ, pos}
 use mir.Syntax.{w32}
 use mir.Val.{SFits, toZ, ofZ}
@@ -13,9 +13,8 @@ use Rattle.rules.specs.declared.event.Event.{Event}
 use Rattle.rules.specs.declared.event.Event.the-variants.{Call as CallEvent}
 use Rattle.rules.specs.declared.answer.Refusal.{Refusal}
 use Rattle.rules.specs.declared.answer.Verdict.the-variants.{Refuse, Pass}
-use Rattle.rules.specs.declared.answer.Answer.{Answer}
-use Rattle.rules.specs.declared.answer.Answer.the-variants.{Count, Refused}
-use Rattle.rules.specs.Answers.{Row, first, Outcome, isRefused, asleepNumber}
+use Rattle.rules.specs.declared.answer.Answer.the-variants.{Refused}
+use Rattle.rules.specs.Answers.{first, Outcome, isRefused}
 use Rattle.rules.specs.Commands.{commandOf}
 use Rattle.rules.specs.Calls.{firstRows, callEffect}
 use Rattle.rules.specs.Events.{ownRows, isQuery, refusals, effect, step}
@@ -26,7 +25,7 @@ use Rattle.layout.specs.Layout.{tablesBytes, stateAt, wordsAt, wordsBytes}
 use Rattle.layout.specs.Check.{Held}
 use Rattle.changes.specs.Change.{Stands}
 use Rattle.vradomil.specs.declared.buffers.Lent.{Lent}
-use Rattle.vradomil.specs.Host.{seen, tablesLeft, wordsLeft, hostNumber, CallFits, EventFits, ChangesTables, ChangesWords, Calls, BuffersJudged, Done, Leaves}
+use Rattle.vradomil.specs.Host.{seen, tablesLeft, wordsLeft, hostNumber, CallFits, EventFits, ChangesTables, ChangesWords, Calls, BuffersJudged, Leaves}
 
 -- the tables that sound bytes stand for
 pub stands : (b : List ℕ) → Held b → Stands (stateAt b) b
@@ -35,10 +34,6 @@ stands b h = record { bytes = h .bytes; sound = h .sound }
 -- a number that fits 32 bits is read back as it was stored
 pub read-back : {z y : ℤ} → (z ≡ y) × SFits w32 z → toZ w32 (ofZ w32 z) ≡ y
 read-back h = toZ-ofZ (h .1) ∙ h .0
-
--- what is left, by equal answers and tables
-pub done-by : (a d : Answer) (s u : State) (n : ℕ) (after : List ℕ) → a ≡ d → s ≡ u → Done a s n after → Done d u n after
-done-by a d s u n after is same h = subst₂ (λ (x : Answer) (y : State). Done x y n after) is same h
 
 pub leaves-by : (o p : Outcome) (n : ℕ) (after : List ℕ) → o ≡ p → Leaves o n after → Leaves p n after
 leaves-by o p n after is h = subst (λ (x : Outcome). Leaves x n after) is h

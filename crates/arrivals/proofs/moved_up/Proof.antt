@@ -1,12 +1,11 @@
-use mathlib.Core.Path.{_≡_, _∙_}
 use mathlib.Core.List.{List}
-use Prim.Native.Nat.{ℕ, _-_, _≤_, _<_}
+use Prim.Native.Nat.{ℕ, _-_}
 use native.Mathlib.Omega.{arith}
 use borrow.Author.Needs.{needs}
-use lib.ListN.{length, getD, length-set}
+use lib.ListN.{getD}
 use lib.Dec.{ltb}
 use Rattle.lists.specs.Lists.{bit}
-use Rattle.lists.proofs.Loops.{stored-next}
+use Rattle.lists.proofs.Loops.{Filled, filled-start, filled-next, filled-all}
 use Rattle.arrivals.specs.Sizes.{threads}
 use Rattle.arrivals.proofs.moved_up.Statement.{statement}
 use Rattle.arrivals.proofs.moved_up.Tie as tie
@@ -14,19 +13,14 @@ use Rattle.arrivals.proofs.moved_up.Tie as tie
 abbrev moved : List ℕ → ℕ → ℕ → ℕ
 moved place out t = getD place t 0 - bit (ltb out (getD place t 0))
 
-record Going (place : List ℕ) (out : ℕ) (next : List ℕ) (i : ℕ) : Type 0 where
-  within : i ≤ threads
-  size : length next ≡ threads
-  done : (t : ℕ) → t < i → getD next t 0 ≡ moved place out t
-
 abbrev Inv-loop : tie.InvT-loop
-Inv-loop out place next₀ i₀ next i = Going place out next i
+Inv-loop out place next₀ i₀ next i = Filled threads 0 (moved place out) next i
 
 abbrev μ-loop : tie.MeasureT-loop
 μ-loop out place next₀ i₀ next i = threads - i
 
 loop-holds : tie.Need-loop-holds Inv-loop μ-loop
-loop-holds c = record { within = omega arith; size = search needs; done = λ t h. absurd (omega arith) }
+loop-holds c = filled-start _ _ (search needs)
 
 array-read-up-one : tie.Need-array-read-up-one Inv-loop μ-loop
 array-read-up-one c = omega arith
@@ -48,14 +42,10 @@ loop-again c =
     let a = c .before .before in
     let g = a .before in
     let k = a .loop in
-    record {
-      within = omega arith;
-      size = length-set (k .next) (k .i) (c .up-one .result) ∙ k .inv .size;
-      done = stored-next (k .next) 0 (moved (g .args .t1) (g .args .out)) (k .i) (c .up-one .result) (omega (arith, k .inv .size)) (k .inv .done) (c .up-one .ensures);
-    }
+    filled-next (moved (g .args .t1) (g .args .out)) (k .next) (k .i) (c .up-one .result) (k .inv) (omega arith) (c .up-one .ensures)
 
 returns : tie.Need-returns Inv-loop μ-loop
-returns c = λ t h. c .before .loop .inv .done t (omega arith)
+returns c = filled-all _ _ _ (c .before .loop .inv) (omega arith)
 
 pub moved-up-spec : {M : Type 1} → statement M
 moved-up-spec =

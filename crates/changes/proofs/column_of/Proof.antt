@@ -5,12 +5,12 @@ use borrow.Author.Needs.{needs}
 use lib.ListN.{getD}
 use Rattle.tables.specs.Sizes.{threadsPerProcess}
 use Rattle.tables.specs.Tables.{threadNumber}
-use Rattle.views.proofs.Filling.{Filling, filling-start, filling-next, filling-all}
+use Rattle.lists.proofs.Loops.{Filled, filled-start, filled-next, filled-all}
 use Rattle.changes.proofs.column_of.Statement.{statement}
 use Rattle.changes.proofs.column_of.Tie as tie
 
 abbrev Inv-loop : tie.InvT-loop
-Inv-loop process place base at₀ i₀ at i = Filling (λ j. getD place (threadNumber process j) 0) at i
+Inv-loop process place base at₀ i₀ at i = Filled threadsPerProcess 0 (λ j. getD place (threadNumber process j) 0) at i
 
 abbrev μ-loop : tie.MeasureT-loop
 μ-loop process place base at₀ i₀ at i = threadsPerProcess - i
@@ -19,7 +19,7 @@ mul-base : tie.Need-mul-base Inv-loop μ-loop
 mul-base c = omega arith
 
 loop-holds : tie.Need-loop-holds Inv-loop μ-loop
-loop-holds c = filling-start _ _ refl
+loop-holds c = filled-start _ _ refl
 
 add-at : tie.Need-add-at Inv-loop μ-loop
 add-at c = omega arith
@@ -43,10 +43,10 @@ loop-less : tie.Need-loop-less Inv-loop μ-loop
 loop-less c = omega arith
 
 loop-again : tie.Need-loop-again Inv-loop μ-loop
-loop-again c = let k = c .before in let g = k .before in filling-next (λ j. getD (g .args .t1) (threadNumber (g .args .process) j) 0) (k .loop .at) (k .loop .i) _ (k .loop .inv) (omega arith) refl
+loop-again c = let k = c .before in let g = k .before in filled-next (λ j. getD (g .args .t1) (threadNumber (g .args .process) j) 0) (k .loop .at) (k .loop .i) _ (k .loop .inv) (omega arith) refl
 
 returns : tie.Need-returns Inv-loop μ-loop
-returns c = filling-all _ _ _ (c .before .loop .inv) (omega arith)
+returns c = filled-all _ _ _ (c .before .loop .inv) (omega arith)
 
 pub column-of-spec : {M : Type 1} → statement M
 column-of-spec =

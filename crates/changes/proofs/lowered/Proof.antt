@@ -1,12 +1,11 @@
-use mathlib.Core.Path.{_≡_, _∙_}
 use mathlib.Core.List.{List}
-use Prim.Native.Nat.{ℕ, _-_, _≤_, _<_}
+use Prim.Native.Nat.{ℕ, _-_}
 use native.Mathlib.Omega.{arith}
 use borrow.Author.Needs.{needs}
-use lib.ListN.{length, getD, length-set}
+use lib.ListN.{getD}
 use lib.Dec.{ltb}
 use Rattle.lists.specs.Lists.{bit}
-use Rattle.lists.proofs.Loops.{stored-next}
+use Rattle.lists.proofs.Loops.{Filled, filled-start, filled-next, filled-all}
 use Rattle.tables.specs.Sizes.{threadsPerProcess}
 use Rattle.changes.proofs.lowered.Statement.{statement}
 use Rattle.changes.proofs.lowered.Tie as tie
@@ -14,19 +13,14 @@ use Rattle.changes.proofs.lowered.Tie as tie
 abbrev low : List ℕ → ℕ → ℕ → ℕ
 low place out i = getD place i 0 - bit (ltb out (getD place i 0))
 
-record Going (place : List ℕ) (out : ℕ) (next : List ℕ) (i : ℕ) : Type 0 where
-  within : i ≤ threadsPerProcess
-  size : length next ≡ threadsPerProcess
-  done : (k : ℕ) → k < i → getD next k 0 ≡ low place out k
-
 abbrev Inv-loop : tie.InvT-loop
-Inv-loop out place next₀ i₀ next i = Going place out next i
+Inv-loop out place next₀ i₀ next i = Filled threadsPerProcess 0 (low place out) next i
 
 abbrev μ-loop : tie.MeasureT-loop
 μ-loop out place next₀ i₀ next i = threadsPerProcess - i
 
 loop-holds : tie.Need-loop-holds Inv-loop μ-loop
-loop-holds c = record { within = omega arith; size = search needs; done = λ k h. absurd (omega arith) }
+loop-holds c = filled-start _ _ (search needs)
 
 mul-low-one : tie.Need-mul-low-one Inv-loop μ-loop
 mul-low-one c = omega arith
@@ -54,14 +48,10 @@ loop-again c =
     let a = c .before .before in
     let g = a .before in
     let k = a .loop in
-    record {
-      within = omega arith;
-      size = length-set (k .next) (k .i) (c .low-one .result) ∙ k .inv .size;
-      done = stored-next (k .next) 0 (low (g .args .t1) (g .args .out)) (k .i) (c .low-one .result) (omega (arith, k .inv .size)) (k .inv .done) (c .low-one .ensures);
-    }
+    filled-next (low (g .args .t1) (g .args .out)) (k .next) (k .i) (c .low-one .result) (k .inv) (omega arith) (c .low-one .ensures)
 
 returns : tie.Need-returns Inv-loop μ-loop
-returns c = λ i h. c .before .loop .inv .done i (omega arith)
+returns c = filled-all _ _ _ (c .before .loop .inv) (omega arith)
 
 pub lowered-spec : {M : Type 1} → statement M
 lowered-spec =

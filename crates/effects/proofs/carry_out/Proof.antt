@@ -15,7 +15,7 @@ use Rattle.tables.specs.Tables.{world, arrivals, endSleeps, moveSleeps}
 use Rattle.tables.proofs.Sound.{tables-sound, listed-below}
 use Rattle.plans.specs.Plans.{carried}
 use Rattle.plans.proofs.Carried.{taken-from, carried-answer, carried-state, carried-words}
-use Rattle.effects.proofs.Copying.{same-first, same-next}
+use Rattle.effects.proofs.Firsts.{same-first, same-next}
 use Rattle.effects.proofs.carry_out.Statement.{statement}
 use Rattle.effects.proofs.carry_out.Tie as tie
 

@@ -4,15 +4,16 @@ use Prim.Native.Nat.{_+_, _-_}
 use native.Mathlib.Omega.{arith}
 use borrow.Author.Needs.{needs}
 use lib.Dec.{ltb}
+use Rattle.tables.specs.Sizes.{threadsPerProcess}
 use Rattle.tables.specs.Tables.{threadNumber}
 use Rattle.views.specs.Views.{indexAt, byRank}
-use Rattle.views.proofs.Filling.{Filling, filling-start, filling-next}
+use Rattle.lists.proofs.Loops.{Filled, filled-start, filled-next}
 use Rattle.plans.proofs.Choosing.{chosen-all}
 use Rattle.plans.proofs.chosen.Statement.{statement}
 use Rattle.plans.proofs.chosen.Tie as tie
 
 abbrev Inv-loop : tie.InvT-loop
-Inv-loop process rank n from m base who₀ k₀ who k = Filling (λ t. byRank process rank (cond (ltb t n) t (from + (t - n)))) who k
+Inv-loop process rank n from m base who₀ k₀ who k = Filled threadsPerProcess 0 (λ t. byRank process rank (cond (ltb t n) t (from + (t - n)))) who k
 
 abbrev μ-loop : tie.MeasureT-loop
 μ-loop process rank n from m base who₀ k₀ who k = n + m - k
@@ -21,7 +22,7 @@ mul-base : tie.Need-mul-base Inv-loop μ-loop
 mul-base c = omega arith
 
 loop-holds : tie.Need-loop-holds Inv-loop μ-loop
-loop-holds c = filling-start _ _ refl
+loop-holds c = filled-start _ _ refl
 
 add-loop : tie.Need-add-loop Inv-loop μ-loop
 add-loop c = omega arith
@@ -55,7 +56,7 @@ loop-again c =
     let r = c .before in
     let k = r .before .before in
     let g = k .before in
-    filling-next (λ t. byRank (g .args .process) (g .args .rank) (cond (ltb t (g .args .n)) t (g .args .from + (t - g .args .n)))) (k .loop .who) (k .loop .k) _ (k .loop .inv) (omega arith)
+    filled-next (λ t. byRank (g .args .process) (g .args .rank) (cond (ltb t (g .args .n)) t (g .args .from + (t - g .args .n)))) (k .loop .who) (k .loop .k) _ (k .loop .inv) (omega arith)
     (ap (threadNumber (g .args .process)) (c .at-rank .ensures .0 ∙ ap (indexAt (g .args .rank)) (r .rank-for .ensures)))
 
 returns : tie.Need-returns Inv-loop μ-loop

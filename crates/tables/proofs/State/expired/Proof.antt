@@ -1,12 +1,12 @@
 use mathlib.Core.Path.{refl}
-use mathlib.Core.Bool.{Bool}
+use mathlib.Core.Bool.{Bool, false}
 use Prim.Native.Nat.{ℕ, _-_}
 use native.Mathlib.Omega.{arith}
 use borrow.Author.Needs.{needs}
+use Rattle.lists.proofs.Loops.{Filled, filled-start, filled-next, filled-all}
 use Rattle.tables.specs.declared.State.{State}
 use Rattle.tables.specs.Sizes.{threads}
 use Rattle.tables.specs.Tables.{threadOf, expired}
-use Rattle.tables.proofs.Flags.{Filled, filled-next}
 use Rattle.tables.proofs.State.expired.Statement.{statement}
 use Rattle.tables.proofs.State.expired.Tie as tie
 
@@ -14,13 +14,13 @@ abbrev due : ℕ → State → ℕ → Bool
 due now s t = expired now (threadOf s t)
 
 abbrev Inv-loop : tie.InvT-loop
-Inv-loop now self flags₀ i₀ flags i = Filled (due now self) flags i
+Inv-loop now self flags₀ i₀ flags i = Filled threads false (due now self) flags i
 
 abbrev μ-loop : tie.MeasureT-loop
 μ-loop now self flags₀ i₀ flags i = threads - i
 
 loop-holds : tie.Need-loop-holds Inv-loop μ-loop
-loop-holds c = record { within = omega arith; size = refl; done = λ t h. absurd (omega arith) }
+loop-holds c = filled-start _ _ refl
 
 mul-t : tie.Need-mul-t Inv-loop μ-loop
 mul-t c = omega arith
@@ -47,7 +47,7 @@ loop-again c =
     filled-next (due (g .args .now) (g .args .t1)) (k .loop .flags) (k .loop .i) (c .has-expired .result) (k .loop .inv) (omega arith) (c .has-expired .ensures)
 
 returns : tie.Need-returns Inv-loop μ-loop
-returns c t h = c .before .loop .inv .done t (omega arith)
+returns c = filled-all _ _ _ (c .before .loop .inv) (omega arith)
 
 pub expired-spec : {M : Type 1} → statement M
 expired-spec =

@@ -15,7 +15,7 @@ use Rattle.vradomil.proofs.event.vradomil_fresh.Statement.{statement}
 use Rattle.vradomil.proofs.event.vradomil_fresh.Tie as tie
 
 abbrev Inv-loop : tie.InvT-loop
-Inv-loop tables₀ i₀ tables i = Copied (tablesBytes fresh) tablesSize tables i
+Inv-loop tables₀ i₀ tables i = Copied (tablesBytes fresh) tablesSize tablesSize tables i
 
 abbrev μ-loop : tie.MeasureT-loop
 μ-loop tables₀ i₀ tables i = tablesSize - i
@@ -29,7 +29,7 @@ returns c =
     record { number = read-back (c .refusal .ensures) ∙ rw other; bytes = rw other }
 
 loop-holds : tie.Need-loop-holds Inv-loop μ-loop
-loop-holds c = copied-start _ _ _ (c .if1 .left)
+loop-holds c = copied-start _ _ _ _ (omega arith) (c .if1 .left)
 
 fresh-byte-requires : tie.Need-fresh-byte-requires Inv-loop μ-loop
 fresh-byte-requires c κs = search needs
@@ -46,7 +46,7 @@ loop-less c = omega arith
 loop-again : tie.Need-loop-again Inv-loop μ-loop
 loop-again c =
     let k = c .before .before in
-    copied-next (tablesBytes fresh) tablesSize (k .loop .tables) (k .loop .i) _ 0 (k .loop .inv) (omega arith) (omega (arith, fresh-size)) (c .fresh-byte .ensures ∙ fresh-byte (k .loop .i) (omega arith))
+    copied-next (tablesBytes fresh) tablesSize tablesSize (k .loop .tables) (k .loop .i) _ 0 (k .loop .inv) (omega arith) (omega (arith, fresh-size)) (c .fresh-byte .ensures ∙ fresh-byte (k .loop .i) (omega arith))
 
 same-length : tie.Need-same-length Inv-loop μ-loop
 same-length c = c .before .loop .inv .long ∙ sym (c .before .before .if1 .left)
@@ -55,7 +55,9 @@ returns-2 : tie.Need-returns-2 Inv-loop μ-loop
 returns-2 c =
     let k = c .before in
     let same = eq-eqb (length (now (k .before .before .before .args .tables))) tablesSize (k .before .if1 .left) in
-    let laid = copied-all _ tablesSize (k .loop .tables) (k .loop .i) (k .loop .inv) (omega arith) ∙ take-all tablesSize (tablesBytes fresh) (omega (arith, fresh-size)) in
+    let laid = sym (take-all tablesSize (k .loop .tables) (omega (arith, k .loop .inv .long)))
+    ∙ copied-all (tablesBytes fresh) tablesSize tablesSize (k .loop .tables) (k .loop .i) (k .loop .inv) (omega arith)
+    ∙ take-all tablesSize (tablesBytes fresh) (omega (arith, fresh-size)) in
     record { number = rw same; bytes = rw same laid }
 
 pub vradomil-fresh-spec : {M : Type 1} → statement M
