@@ -2,14 +2,15 @@
  * Times the library against plain.c and tuned.c on the same events: many short batches, the sides by turns, each batch on tables
  * that were copied into place just before, outside the time. Prints the median time of a call and the median ratios; first of the
  * functions that answer a number alone, then of those that also write a report. With an older library beside it, that is one more
- * side, by its numbers alone both times, with a dash where it lacks the function. It can also make each call once, for callgrind, or
- * only compare the sides on random events, which it does before it measures, too.
+ * side, by its numbers alone both times, with a dash where it lacks the function. It can also make each call once, for callgrind.
  */
 #define _GNU_SOURCE
-#include "agree.h"
-#include "sides.h"
+#include "kinds.h"
+#include "plain.h"
+#include "tuned.h"
 
 #include <math.h>
+#include <stdbool.h>
 #include <stdio.h>
 #include <stdlib.h>
 #include <string.h>
@@ -19,10 +20,52 @@
  * A batch's tables fit the first cache. Forty batches differ enough that no branch is foreseen by heart, which is hard on code that
  * branches on what the tables hold; with a single batch, over and over, the processor knows them all, which is kind to it.
  */
-enum { BATCH = 24, BATCHES = 40, SAMPLES = BATCHES * BATCH, ROUNDS = 800 };
+enum { BATCH = 24, BATCHES = 40, SAMPLES = BATCHES * BATCH, ROUNDS = 2000 };
+#ifndef WITH_BEFORE
+#define WITH_BEFORE 0
+#endif
+enum { PLAIN, TUNED, LIBRARY, BEFORE, SIDES = BEFORE + WITH_BEFORE };
 
-/* How many random events are compared before anything is measured. */
-enum { COMPARED = 20000 };
+/* A side without reports has null in the second half; a library from before priorities has null for the function that sets them. */
+struct kernel {
+    const char *name;
+    int32_t (*call)(uint8_t *, size_t, uint8_t *, size_t, uint8_t, uint8_t, uint32_t, uint32_t, uint32_t, uint8_t, uint64_t,
+                    uint32_t, uint32_t);
+    int32_t (*store)(const uint8_t *, size_t, uint8_t *, size_t, uint8_t, uint32_t, uint32_t);
+    int32_t (*clock)(uint8_t *, size_t, const uint8_t *, size_t, uint64_t);
+    int32_t (*interrupt)(uint8_t *, size_t, const uint8_t *, size_t, uint8_t, uint8_t);
+    int32_t (*set_priority)(uint8_t *, size_t, const uint8_t *, size_t, uint8_t, uint8_t, uint8_t);
+    uint32_t (*query)(const uint8_t *, size_t, uint8_t);
+    int32_t (*call_report)(uint8_t *, size_t, uint8_t *, size_t, uint8_t, uint8_t, uint32_t, uint32_t, uint32_t, uint8_t,
+                           uint64_t, uint32_t, uint32_t, uint8_t *, size_t);
+    int32_t (*store_report)(const uint8_t *, size_t, uint8_t *, size_t, uint8_t, uint32_t, uint32_t, uint8_t *, size_t);
+    int32_t (*clock_report)(uint8_t *, size_t, const uint8_t *, size_t, uint64_t, uint8_t *, size_t);
+    int32_t (*interrupt_report)(uint8_t *, size_t, const uint8_t *, size_t, uint8_t, uint8_t, uint8_t *, size_t);
+    int32_t (*set_priority_report)(uint8_t *, size_t, const uint8_t *, size_t, uint8_t, uint8_t, uint8_t, uint8_t *, size_t);
+};
+
+#define NUMBERS(name) name##_call, name##_store, name##_clock, name##_interrupt, name##_set_priority, name##_query
+#define REPORTS(name) \
+    name##_call_report, name##_store_report, name##_clock_report, name##_interrupt_report, name##_set_priority_report
+
+#if WITH_BEFORE
+/* The older library; bench/build gives its functions these names. */
+__typeof__(vradomil_call) before_vradomil_call;
+__typeof__(vradomil_store) before_vradomil_store;
+__typeof__(vradomil_clock) before_vradomil_clock;
+__typeof__(vradomil_interrupt) before_vradomil_interrupt;
+__typeof__(vradomil_set_priority) before_vradomil_set_priority __attribute__((weak)); /* null if it has none */
+__typeof__(vradomil_query) before_vradomil_query;
+#endif
+
+static const struct kernel kernels[SIDES] = {
+    [PLAIN] = {"plain", NUMBERS(plain), REPORTS(plain)},
+    [TUNED] = {"tuned", NUMBERS(tuned), REPORTS(tuned)},
+    [LIBRARY] = {"library", NUMBERS(vradomil), REPORTS(vradomil)},
+#if WITH_BEFORE
+    [BEFORE] = {"before", NUMBERS(before_vradomil), NULL, NULL, NULL, NULL, NULL},
+#endif
+};
 
 /* What one side works on, and what it answered. */
 struct side {
@@ -34,18 +77,11 @@ struct side {
 
 /* The fills of the kinds that take sleepers by priority, and of the others, to whom priorities are all the same. */
 static const struct fill taking_fills[] = {
-    {1, 1, false, false}, {1, 1, true, false}, {1, 1, true, true},
-    {32, 1, false, false}, {32, 1, true, false},
-    {32, 4, false, false}, {32, 4, true, false}, {32, 4, true, true},
-    {32, 7, false, false}, {32, 7, true, false},
-    {63, 1, false, false}, {63, 1, true, false}, {63, 1, true, true},
-    {63, 4, false, false}, {63, 4, true, false}, {63, 4, true, true},
-    {63, 7, false, false}, {63, 7, true, false}, {63, 7, true, true},
+    {1, 1, false}, {1, 1, true},
+    {32, 1, false}, {32, 1, true}, {32, 4, false}, {32, 4, true}, {32, 7, false}, {32, 7, true},
+    {63, 1, false}, {63, 1, true}, {63, 4, false}, {63, 4, true}, {63, 7, false}, {63, 7, true},
 };
-static const struct fill other_fills[] = {
-    {0, 0, true, false}, {1, 1, true, false}, {1, 1, true, true}, {32, 3, true, false}, {32, 3, true, true}, {63, 3, true, false},
-    {63, 3, true, true},
-};
+static const struct fill other_fills[] = {{0, 0, true}, {1, 1, true}, {32, 3, true}, {63, 3, true}};
 enum { MOST_FILLS = sizeof taking_fills / sizeof *taking_fills, MOST_CELLS = KINDS * MOST_FILLS };
 
 /* What one line is of. */
@@ -66,31 +102,74 @@ static double now(void)
     return (double)t.tv_sec * 1e9 + (double)t.tv_nsec;
 }
 
+/* The tables of a library from before priorities are the same bytes, and end where the priorities begin. */
+static size_t tables_length(const struct kernel *k)
+{
+    return k->set_priority != NULL ? sizeof(struct vradomil_tables) : offsetof(struct vradomil_tables, priority);
+}
+
+static inline int64_t apply(const struct kernel *k, uint8_t *t, size_t length, uint8_t *w, const struct event *e)
+{
+    switch (e->function) {
+    case CALL:
+        return k->call(t, length, w, VRADOMIL_WORDS_BYTES, e->process, e->index, e->op, e->uaddr, e->val, e->flag, e->time,
+                       e->uaddr2, e->val3);
+    case STORE:
+        return k->store(t, length, w, VRADOMIL_WORDS_BYTES, e->process, e->uaddr, e->val);
+    case CLOCK:
+        return k->clock(t, length, w, VRADOMIL_WORDS_BYTES, e->time);
+    case INTERRUPT:
+        return k->interrupt(t, length, w, VRADOMIL_WORDS_BYTES, e->process, e->index);
+    case SET_PRIORITY:
+        return k->set_priority(t, length, w, VRADOMIL_WORDS_BYTES, e->process, e->index, e->priority);
+    default:
+        return k->query(t, length, e->process);
+    }
+}
+
+static inline int64_t apply_report(const struct kernel *k, uint8_t *t, size_t length, uint8_t *w, const struct event *e,
+                                   struct vradomil_report *report)
+{
+    uint8_t *r = (uint8_t *)report;
+    switch (e->function) {
+    case CALL:
+        return k->call_report(t, length, w, VRADOMIL_WORDS_BYTES, e->process, e->index, e->op, e->uaddr, e->val, e->flag, e->time,
+                              e->uaddr2, e->val3, r, sizeof *report);
+    case STORE:
+        return k->store_report(t, length, w, VRADOMIL_WORDS_BYTES, e->process, e->uaddr, e->val, r, sizeof *report);
+    case CLOCK:
+        return k->clock_report(t, length, w, VRADOMIL_WORDS_BYTES, e->time, r, sizeof *report);
+    case INTERRUPT:
+        return k->interrupt_report(t, length, w, VRADOMIL_WORDS_BYTES, e->process, e->index, r, sizeof *report);
+    case SET_PRIORITY:
+        return k->set_priority_report(t, length, w, VRADOMIL_WORDS_BYTES, e->process, e->index, e->priority, r, sizeof *report);
+    default:
+        return k->query(t, length, e->process);
+    }
+}
+
 /* Whether a side has the function that the samples call. */
 static bool takes_part(size_t side)
 {
-    return has_function(&kernels[side], samples[0].event.function);
+    return samples[0].event.function != SET_PRIORITY || kernels[side].set_priority != NULL;
 }
 
 /* One batch on one side: nanoseconds a call. */
 static double run_batch(const struct kernel *k, struct side *s, const struct sample *first, bool report, double timer)
 {
-    struct lent b = {NULL, tables_length(k), (uint8_t *)s->words, VRADOMIL_WORDS_BYTES, NULL, sizeof *s->reports};
+    uint8_t *words = (uint8_t *)s->words;
+    size_t length = tables_length(k);
     for (size_t i = 0; i < BATCH; i++) {
         s->tables[i] = first[i].tables;
         s->reports[i].reason = STALE;
     }
     double start = now();
     if (report && k->call_report != NULL)
-        for (size_t i = 0; i < BATCH; i++) {
-            b.tables = (uint8_t *)&s->tables[i], b.report = (uint8_t *)&s->reports[i];
-            s->answers[i] = apply_report(k, &b, &first[i].event);
-        }
+        for (size_t i = 0; i < BATCH; i++)
+            s->answers[i] = apply_report(k, (uint8_t *)&s->tables[i], length, words, &first[i].event, &s->reports[i]);
     else
-        for (size_t i = 0; i < BATCH; i++) {
-            b.tables = (uint8_t *)&s->tables[i];
-            s->answers[i] = apply(k, &b, &first[i].event);
-        }
+        for (size_t i = 0; i < BATCH; i++)
+            s->answers[i] = apply(k, (uint8_t *)&s->tables[i], length, words, &first[i].event);
     return (now() - start - timer) / BATCH;
 }
 
@@ -98,18 +177,6 @@ static void fail(const struct kind *kind, int side, const char *what)
 {
     printf("bench: %s: %s differs from plain, or from the kind, in %s\n", kind->name, kernels[side].name, what);
     exit(1);
-}
-
-/* The tables are as plain.c left them; where an older library was not lent the owners, without these. */
-static bool same_tables(int side)
-{
-    const struct vradomil_tables *mine = sides[side].tables, *plain = sides[PLAIN].tables;
-    if (kernels[side].owner_wait != NULL)
-        return memcmp(mine, plain, sizeof sides->tables) == 0;
-    for (size_t i = 0; i < BATCH; i++)
-        if (memcmp(&mine[i], &plain[i], offsetof(struct vradomil_tables, owner)) != 0)
-            return false;
-    return true;
 }
 
 /*
@@ -133,17 +200,32 @@ static void check(const struct cell *cell, bool report)
                 fail(kind, side, "a reason");
         }
         bool others = by_arrival[side] && kind->takes && cell->fill->mixed;
-        if (!others && !same_tables(side))
+        if (!others && memcmp(sides[side].tables, plain->tables, sizeof plain->tables) != 0)
             fail(kind, side, "the tables");
         if (memcmp(sides[side].words, plain->words, sizeof plain->words) != 0)
             fail(kind, side, "the words");
     }
 }
 
+/* Whether a side wakes the first of two sleepers at a word, and not the second, whose priority is higher. */
+static bool wakes_first(const struct kernel *k)
+{
+    static struct vradomil_tables t;
+    static uint8_t words[VRADOMIL_WORDS_BYTES];
+    uint8_t *bytes = (uint8_t *)&t;
+    plain_fresh(bytes, sizeof t);
+    for (uint8_t index = 1; index <= 2; index++) {
+        k->call(bytes, tables_length(k), words, sizeof words, 0, index, VRADOMIL_WAIT, 0, 0, 0, 0, 0, 0);
+        t.priority[index] = index;
+    }
+    k->call(bytes, tables_length(k), words, sizeof words, 0, 0, VRADOMIL_WAKE, 0, 1, 0, 0, 0, 0);
+    return !t.waiting[1];
+}
+
 static void find_by_arrival(void)
 {
     for (int side = 0; side < SIDES; side++) {
-        by_arrival[side] = takes_by_arrival(&kernels[side]);
+        by_arrival[side] = wakes_first(&kernels[side]);
         if (by_arrival[side])
             printf("%s takes sleepers by arrival: whom it took of mixed priorities is not compared.\n", kernels[side].name);
     }
@@ -193,10 +275,7 @@ static void run_round(const struct cell *cell, size_t round, bool report, double
     check(cell, report);
 }
 
-/*
- * The kind, how many sleep in all and at the word, how the priorities are, and whether words have owners. A dash where it doesn't
- * matter who waits at the word and how the priorities are.
- */
+/* The kind, how many sleep in all and at the word, and how the priorities are; dashes for the last two where they don't matter. */
 static void print_cell(const struct cell *cell)
 {
     printf("%-24s %8d", kinds[cell->kind].name, cell->fill->sleepers);
@@ -204,7 +283,6 @@ static void print_cell(const struct cell *cell)
         printf(" %5d %10s", cell->fill->there, cell->fill->mixed ? "mixed" : "equal");
     else
         printf(" %5s %10s", "-", "-");
-    printf(" %6s", cell->fill->owned ? "3 of 4" : "none");
 }
 
 /* In its column, or a dash. */
@@ -242,7 +320,7 @@ static void measure(const struct cell *cell, bool report, double timer, double o
 
 static void headings(void)
 {
-    printf("%-24s %8s %5s %10s %6s", "event", "sleepers", "there", "priorities", "owners");
+    printf("%-24s %8s %5s %10s", "event", "sleepers", "there", "priorities");
     for (int side = 0; side < SIDES; side++)
         printf(" %7s ns", kernels[side].name);
     for (int side = 0; side < SIDES; side++)
@@ -313,16 +391,11 @@ int main(int argc, char **argv)
 {
     double timer = timer_cost();
     const char *what = argc > 1 ? argv[1] : "";
-    long number = argc > 2 ? strtol(argv[2], NULL, 10) : 0;
-    bool compared = strcmp(what, "compare") == 0 && argc == 3 && number > 0;
-    bool good = argc == 2 || (argc == 3 && number >= 1 && number <= BATCHES);
-    if (argc == 3)
-        batches = (size_t)number;
-    if (compared) {
-        compare_sides(number);
-    } else if (good && strcmp(what, "time") == 0) {
+    if (argc > 2)
+        batches = strtoul(argv[2], NULL, 10);
+    bool good = argc <= 3 && batches >= 1 && batches <= BATCHES;
+    if (good && strcmp(what, "time") == 0) {
         find_by_arrival();
-        compare_sides(COMPARED);
         measure_all("numbers:", false, timer);
         printf("\n");
         measure_all("reports:", true, timer);
@@ -331,7 +404,7 @@ int main(int argc, char **argv)
         counted();
         count_all();
     } else {
-        fprintf(stderr, "usage: bench time|count [BATCHES], 1 to %d, or bench compare EVENTS\n", BATCHES);
+        fprintf(stderr, "usage: bench time|count [BATCHES], 1 to %d\n", BATCHES);
         return 2;
     }
     return 0;

@@ -1,7 +1,6 @@
 /*
- * What plain.c and tuned.c have in common: the rules of a call once the tables are sound. They differ in how they check the tables,
- * how they change the list and how they look at owners, so each defines release, requeue_sleepers, owner_of and set_owner for
- * itself.
+ * What plain.c and tuned.c have in common: the rules of a call once the tables are sound. They differ in how they check the tables
+ * and how they change the list, so each defines release and requeue_sleepers for itself.
  */
 #ifndef CALLS_H
 #define CALLS_H
@@ -17,7 +16,7 @@
 
 typedef struct vradomil_tables tables_t;
 
-/* The arguments of a call that has passed the tests up to -16. An owner call has those of the like plain call, and its own. */
+/* The arguments of a call that has passed the tests up to -16. */
 struct call {
     tables_t *t;
     uint8_t *area; /* the words of the caller's process */
@@ -31,35 +30,18 @@ struct call {
     uint32_t uaddr2;
     uint32_t cap2;
     uint32_t val3;
-    bool names;    /* a wait or requeue that names the owner of the word to which sleepers come .. */
-    uint8_t owner; /* .. and whom */
-    bool single;   /* who is released becomes the owner of uaddr, else nobody */
-    /* Only tuned.c has these. */
-    bool owned;      /* a word of the process has an owner */
-    uint8_t *places; /* where each thread of the process stands in the list, from 1, or 0 */
+    uint8_t *places; /* where each thread of the process stands in the list, from 1, or 0; only tuned.c has it */
 };
 
 struct requeued {
     int32_t released, moved;
 };
 
-/*
- * Ends cap sleeps at a word whose mask shares a bit: those of higher priority, and the first among equals. Says how many. The word
- * loses its owner, or has the released one if single.
- */
+/* Ends cap sleeps at a word whose mask shares a bit: those of higher priority, and the first among equals. Says how many. */
 static inline int32_t release(const struct call *c, uint32_t uaddr, uint32_t mask, uint32_t cap);
 
-/*
- * Ends val sleeps at uaddr, in the same order; the next, up to cap2, go to uaddr2 and to the end of the list. Both words get their
- * owners. Changes nothing and says no if the owner of uaddr2 would then be asleep there.
- */
-static inline bool requeue_sleepers(const struct call *c, struct requeued *n);
-
-/* The owner of a word of the caller's process, 255 if it has none. */
-static inline uint8_t owner_of(const struct call *c, uint32_t uaddr);
-
-/* Writes the owner into the records of all who sleep at a word. */
-static inline void set_owner(const struct call *c, uint32_t uaddr, uint8_t owner);
+/* Ends val sleeps at uaddr, in the same order; the next, up to cap2, go to uaddr2 and to the end of the list. */
+static inline struct requeued requeue_sleepers(const struct call *c);
 
 static inline uint32_t load(const uint8_t *word)
 {
@@ -82,25 +64,6 @@ static inline void run_again(tables_t *t, size_t thread, uint8_t last)
     t->uaddr[thread] = 0;
     t->bitset[thread] = 0;
     t->deadline[thread] = 0;
-    t->owner[thread] = VRADOMIL_NO_OWNER;
-}
-
-static inline bool sleeps_at(const struct call *c, uint8_t index, uint32_t uaddr)
-{
-    size_t thread = VRADOMIL_THREADS_PER_PROCESS * c->process + index;
-    return index < VRADOMIL_THREADS_PER_PROCESS && c->t->waiting[thread] && c->t->uaddr[thread] == uaddr;
-}
-
-/* It names an owner that is neither an index nor none. */
-static inline bool names_nobody(const struct call *c)
-{
-    return c->names && c->owner >= VRADOMIL_THREADS_PER_PROCESS && c->owner != VRADOMIL_NO_OWNER;
-}
-
-/* The owner of the word to which a wait or requeue brings sleepers, if it is not refused. */
-static inline uint8_t owner_then(const struct call *c, uint32_t uaddr)
-{
-    return c->names ? c->owner : owner_of(c, uaddr);
 }
 
 /* The list has room: it is of sound tables, and the caller runs. */
@@ -113,21 +76,13 @@ static inline int32_t wait(const struct call *c, uint32_t mask, uint64_t deadlin
         return VRADOMIL_EFAULT;
     if (load(c->area + c->uaddr) != c->val)
         return VRADOMIL_EAGAIN;
-    if (names_nobody(c))
-        return VRADOMIL_ESRCH;
-    uint8_t owner = owner_then(c, c->uaddr);
-    if (owner == c->caller % VRADOMIL_THREADS_PER_PROCESS || (c->names && sleeps_at(c, owner, c->uaddr)))
-        return VRADOMIL_EINVAL;
     if (c->timed && deadline <= t->clock)
         return VRADOMIL_ETIMEDOUT;
-    if (c->names)
-        set_owner(c, c->uaddr, owner);
     t->waiting[c->caller] = 1;
     t->timed[c->caller] = c->timed;
     t->uaddr[c->caller] = c->uaddr;
     t->bitset[c->caller] = mask;
     t->deadline[c->caller] = c->timed ? deadline : 0;
-    t->owner[c->caller] = owner;
     t->list[t->count++] = (uint8_t)c->caller;
     return VRADOMIL_ASLEEP;
 }
@@ -139,16 +94,6 @@ static inline int32_t wake(const struct call *c, uint32_t mask)
     if (c->uaddr >= WORD_AREA)
         return VRADOMIL_EFAULT;
     return release(c, c->uaddr, mask, c->val);
-}
-
-/* Tested as a wake. */
-static inline int32_t ask_owner(const struct call *c)
-{
-    if (c->uaddr % 4 != 0)
-        return VRADOMIL_EINVAL;
-    if (c->uaddr >= WORD_AREA)
-        return VRADOMIL_EFAULT;
-    return owner_of(c, c->uaddr);
 }
 
 /* -22 and -14 of the commands with two addresses and two caps; else 0. */
@@ -168,11 +113,7 @@ static inline int32_t requeue(const struct call *c, bool compare)
         return refusal;
     if (compare && load(c->area + c->uaddr) != c->val3)
         return VRADOMIL_EAGAIN;
-    if (names_nobody(c))
-        return VRADOMIL_ESRCH;
-    struct requeued n;
-    if (!requeue_sleepers(c, &n))
-        return VRADOMIL_EINVAL;
+    struct requeued n = requeue_sleepers(c);
     return compare ? n.released + n.moved : n.released;
 }
 
@@ -265,8 +206,7 @@ static inline uint8_t call_reason(uint32_t op, uint32_t uaddr, uint32_t val, uin
     uint32_t number = op & ~(uint32_t)VRADOMIL_PRIVATE;
     bool waits = number == VRADOMIL_WAIT || number == VRADOMIL_WAIT_BITSET;
     bool masked = number == VRADOMIL_WAIT_BITSET || number == VRADOMIL_WAKE_BITSET;
-    bool moves = number == VRADOMIL_REQUEUE || number == VRADOMIL_CMP_REQUEUE;
-    bool two = moves || number == VRADOMIL_WAKE_OP;
+    bool two = number == VRADOMIL_REQUEUE || number == VRADOMIL_CMP_REQUEUE || number == VRADOMIL_WAKE_OP;
     if (!waits && val > VRADOMIL_ALL)
         return VRADOMIL_REASON_VAL;
     if (two && cap2 > VRADOMIL_ALL)
@@ -275,11 +215,9 @@ static inline uint8_t call_reason(uint32_t op, uint32_t uaddr, uint32_t val, uin
         return VRADOMIL_REASON_VAL3;
     if (uaddr % 4 != 0)
         return VRADOMIL_REASON_UADDR;
-    if (two && uaddr2 % 4 != 0)
+    if (uaddr2 % 4 != 0)
         return VRADOMIL_REASON_UADDR2;
-    if (moves && uaddr == uaddr2)
-        return VRADOMIL_REASON_SAME_UADDR;
-    return VRADOMIL_REASON_OWNER;
+    return VRADOMIL_REASON_SAME_UADDR;
 }
 
 /* Hands an answer on, and what there is room for of its report. */

@@ -1,8 +1,7 @@
 #include "samples.h"
 
 enum { REFUSED_11, REFUSED_22, REFUSED_CAP2, REFUSED_SAME, WAIT, WAKE_ONE, WAKE_ALL, WAKE_FEW, WAKE_NOBODY, REQUEUE, MOVE_ALL,
-       WAKE_OP, WAKE_OP_ONE_WORD, STORED, CLOCK_NONE, CLOCK_HALF, INTERRUPTED, SET_RUNNING, SET_ASLEEP, SET_REFUSED,
-       OWNER_WAITS, OWNER_REFUSED, SINGLE_WAKE, OWNER_MOVES, SINGLE_MOVES, OWNER_ASKED, QUERIED };
+       WAKE_OP, WAKE_OP_ONE_WORD, STORED, CLOCK_NONE, CLOCK_HALF, INTERRUPTED, SET_RUNNING, SET_ASLEEP, SET_REFUSED, QUERIED };
 _Static_assert(QUERIED == KINDS - 1, "all kinds");
 
 const struct kind kinds[KINDS] = {
@@ -26,12 +25,6 @@ const struct kind kinds[KINDS] = {
     [SET_RUNNING] = {"set_priority, running", false, 0, 0, 0},
     [SET_ASLEEP] = {"set_priority, asleep", false, 1, 0, 0},
     [SET_REFUSED] = {"set_priority -22", false, 0, -22, -22, VRADOMIL_REASON_PRIORITY},
-    [OWNER_WAITS] = {"owner_wait sleeps", false, 0, VRADOMIL_ASLEEP, VRADOMIL_ASLEEP},
-    [OWNER_REFUSED] = {"owner_wait -22, owner", false, 0, -22, -22, VRADOMIL_REASON_OWNER},
-    [SINGLE_WAKE] = {"wake_single_owner", true, 1, 1, 1},
-    [OWNER_MOVES] = {"owner_requeue 1 and all", true, 1, 1, 7},
-    [SINGLE_MOVES] = {"owner_requeue single, 1", true, 1, 1, 2},
-    [OWNER_ASKED] = {"get_owner", false, 0, 0, VRADOMIL_NO_OWNER},
     [QUERIED] = {"query", false, 0, 0, UINT32_MAX, STALE},
 };
 
@@ -59,34 +52,6 @@ static struct event make_other(const struct vradomil_tables *t, int kind, uint8_
         return make_set_priority(caller, VRADOMIL_MAX_PRIORITY + 1 + draw() % (UINT8_MAX - VRADOMIL_MAX_PRIORITY));
     default:
         return (struct event){.function = QUERY, .process = caller / 8};
-    }
-}
-
-/*
- * An owner that is named: of a wait's word another thread than the caller, who would be refused; of a requeue's target the caller.
- * The single requeue leaves sleepers at the first word if there are more than two.
- */
-static struct event make_owner_call(const struct vradomil_tables *t, int kind, uint8_t caller)
-{
-    struct event e = kind == OWNER_MOVES    ? make_requeue(caller, 1, VRADOMIL_ALL)
-                     : kind == SINGLE_MOVES ? make_requeue(caller, 0, 1)
-                                            : make_call(caller, VRADOMIL_WAIT, addresses[0], WORD_VALUE);
-    e.owner = kind == OWNER_WAITS ? draw_owner(t, caller / 8, addresses[0], caller) : caller % 8;
-    e.single = kind == SINGLE_MOVES;
-    switch (kind) {
-    case OWNER_WAITS:
-    case OWNER_REFUSED:
-        e.function = OWNER_WAIT;
-        return e;
-    case SINGLE_WAKE:
-        e.function = WAKE_SINGLE_OWNER;
-        return e;
-    case OWNER_ASKED:
-        e.function = GET_OWNER;
-        return e;
-    default:
-        e.function = OWNER_REQUEUE;
-        return e;
     }
 }
 
@@ -129,7 +94,7 @@ static struct event make_event(struct vradomil_tables *t, int kind, uint8_t call
     case WAKE_OP_ONE_WORD:
         return make_wake_op(caller, addresses[kind == WAKE_OP ? 1 : 0]);
     default:
-        return kind >= OWNER_WAITS && kind <= OWNER_ASKED ? make_owner_call(t, kind, caller) : make_other(t, kind, caller);
+        return make_other(t, kind, caller);
     }
 }
 

@@ -6,12 +6,11 @@
 
 #include <stdbool.h>
 
-enum function { CALL, STORE, CLOCK, INTERRUPT, SET_PRIORITY, OWNER_WAIT, WAKE_SINGLE_OWNER, OWNER_REQUEUE, GET_OWNER, QUERY };
+enum function { CALL, STORE, CLOCK, INTERRUPT, SET_PRIORITY, QUERY };
 
-/* An owner requeue has its caps in val and time and the expected number in val3, as a CMP_REQUEUE. */
 struct event {
     enum function function;
-    uint8_t process, index, flag, priority, owner, single;
+    uint8_t process, index, flag, priority;
     uint32_t op, uaddr, val, uaddr2, val3;
     uint64_t time;
 };
@@ -27,7 +26,6 @@ struct fill {
     int sleepers; /* of all processes */
     int there;    /* how many of them wait at the caller's first word, the rest at others */
     bool mixed;   /* priorities from 0 to 31, else all equal */
-    bool owned;   /* three of four words with sleepers have an owner, else none */
 };
 
 struct kind {
@@ -41,7 +39,7 @@ struct kind {
 /* What stands in a report before an event. A query has no report and leaves it. */
 enum { STALE = 255 };
 
-enum { KINDS = 27 };
+enum { KINDS = 21 };
 extern const struct kind kinds[KINDS];
 
 /* The words that the events read hold this number. */

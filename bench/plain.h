@@ -19,15 +19,6 @@ int32_t plain_interrupt(uint8_t *tables, size_t tables_len, const uint8_t *words
                         uint8_t index);
 int32_t plain_set_priority(uint8_t *tables, size_t tables_len, const uint8_t *words, size_t words_len, uint8_t process,
                            uint8_t index, uint8_t priority);
-int32_t plain_owner_wait(uint8_t *tables, size_t tables_len, uint8_t *words, size_t words_len, uint8_t process, uint8_t index,
-                         uint32_t uaddr, uint32_t val, uint8_t flag, uint64_t deadline, uint8_t owner);
-int32_t plain_wake_single_owner(uint8_t *tables, size_t tables_len, uint8_t *words, size_t words_len, uint8_t process,
-                                uint8_t index, uint32_t uaddr);
-int32_t plain_owner_requeue(uint8_t *tables, size_t tables_len, uint8_t *words, size_t words_len, uint8_t process,
-                            uint8_t index, uint32_t uaddr, uint32_t cap, uint32_t val, uint32_t uaddr2, uint32_t cap2,
-                            uint8_t owner, uint8_t single);
-int32_t plain_get_owner(const uint8_t *tables, size_t tables_len, const uint8_t *words, size_t words_len, uint8_t process,
-                        uint8_t index, uint32_t uaddr);
 uint32_t plain_query(const uint8_t *tables, size_t tables_len, uint8_t process);
 int32_t plain_call_report(uint8_t *tables, size_t tables_len, uint8_t *words, size_t words_len, uint8_t process, uint8_t index,
                           uint32_t op, uint32_t uaddr, uint32_t val, uint8_t flag, uint64_t timeout, uint32_t uaddr2,
@@ -40,15 +31,5 @@ int32_t plain_interrupt_report(uint8_t *tables, size_t tables_len, const uint8_t
                                uint8_t index, uint8_t *report, size_t report_len);
 int32_t plain_set_priority_report(uint8_t *tables, size_t tables_len, const uint8_t *words, size_t words_len,
                                   uint8_t process, uint8_t index, uint8_t priority, uint8_t *report, size_t report_len);
-int32_t plain_owner_wait_report(uint8_t *tables, size_t tables_len, uint8_t *words, size_t words_len, uint8_t process,
-                                uint8_t index, uint32_t uaddr, uint32_t val, uint8_t flag, uint64_t deadline, uint8_t owner,
-                                uint8_t *report, size_t report_len);
-int32_t plain_wake_single_owner_report(uint8_t *tables, size_t tables_len, uint8_t *words, size_t words_len, uint8_t process,
-                                       uint8_t index, uint32_t uaddr, uint8_t *report, size_t report_len);
-int32_t plain_owner_requeue_report(uint8_t *tables, size_t tables_len, uint8_t *words, size_t words_len, uint8_t process,
-                                   uint8_t index, uint32_t uaddr, uint32_t cap, uint32_t val, uint32_t uaddr2, uint32_t cap2,
-                                   uint8_t owner, uint8_t single, uint8_t *report, size_t report_len);
-int32_t plain_get_owner_report(const uint8_t *tables, size_t tables_len, const uint8_t *words, size_t words_len,
-                               uint8_t process, uint8_t index, uint32_t uaddr, uint8_t *report, size_t report_len);
 
 #endif

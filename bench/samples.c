@@ -37,36 +37,6 @@ static void put_asleep(struct vradomil_tables *t, uint8_t thread, uint32_t uaddr
     t->list[t->count++] = thread;
 }
 
-static bool sleeps_at(const struct vradomil_tables *t, uint8_t thread, uint32_t uaddr)
-{
-    return t->waiting[thread] && t->uaddr[thread] == uaddr;
-}
-
-uint8_t draw_owner(const struct vradomil_tables *t, uint8_t process, uint32_t uaddr, uint8_t caller)
-{
-    uint8_t indexes[VRADOMIL_THREADS_PER_PROCESS];
-    bool callers = process == caller / 8;
-    int n = 0;
-    for (uint8_t index = 0; index < VRADOMIL_THREADS_PER_PROCESS; index++) {
-        uint8_t thread = 8 * process + index;
-        if (thread != caller && !sleeps_at(t, thread, uaddr) && !(callers && sleeps_at(t, thread, addresses[0])))
-            indexes[n++] = index;
-    }
-    if (n == 0)
-        return callers ? caller % 8 : VRADOMIL_NO_OWNER;
-    return indexes[draw() % (uint64_t)n];
-}
-
-static void give_owners(struct vradomil_tables *t, uint8_t caller)
-{
-    for (uint8_t word = 0; word < 3 * VRADOMIL_PROCESSES; word++) {
-        uint8_t process = word / 3, owner = draw() % 4 ? draw_owner(t, process, addresses[word % 3], caller) : VRADOMIL_NO_OWNER;
-        for (uint8_t thread = 8 * process; thread / 8 == process; thread++)
-            if (sleeps_at(t, thread, addresses[word % 3]))
-                t->owner[thread] = owner;
-    }
-}
-
 /* Those at the first word, one at the second and then any others are put asleep, and their order is drawn anew. */
 void make_tables(struct vradomil_tables *t, uint8_t caller, const struct fill *fill)
 {
@@ -74,7 +44,6 @@ void make_tables(struct vradomil_tables *t, uint8_t caller, const struct fill *f
     int n = 0, m = 0, asleep = 0, k;
     memset(t, 0, sizeof *t);
     memset(t->list, VRADOMIL_NO_ENTRY, sizeof t->list);
-    memset(t->owner, VRADOMIL_NO_OWNER, sizeof t->owner);
     t->clock = 1000 + draw() % 1000;
     for (uint8_t thread = 0; thread < VRADOMIL_THREADS; thread++) {
         t->last[thread] = draw() % 4;
@@ -97,8 +66,6 @@ void make_tables(struct vradomil_tables *t, uint8_t caller, const struct fill *f
     for (k = 0; asleep < fill->sleepers; k++, asleep++)
         put_asleep(t, others[k], addresses[others[k] / 8 == caller / 8 ? 1 + draw() % 2 : draw() % 3]);
     shuffle(t->list, asleep);
-    if (fill->owned)
-        give_owners(t, caller);
 }
 
 uint32_t make_masks(struct vradomil_tables *t, uint8_t caller, uint64_t there, uint64_t matching)

@@ -12,11 +12,8 @@ extern const uint32_t addresses[4];
 
 uint64_t draw(void);
 
-/* Random tables, in which the caller runs. A word where it may wait, or to which sleepers may go, has an owner that allows it. */
+/* Random tables, in which the caller runs. */
 void make_tables(struct vradomil_tables *t, uint8_t caller, const struct fill *fill);
-
-/* A random owner for a word, 255 if nobody can be: not the caller if another can, and nobody who might be moved to that word. */
-uint8_t draw_owner(const struct vradomil_tables *t, uint8_t process, uint32_t uaddr, uint8_t caller);
 
 /* Gives all sleepers other masks; says which mask so many matching ones of those there, at the caller's first word, share alone. */
 uint32_t make_masks(struct vradomil_tables *t, uint8_t caller, uint64_t there, uint64_t matching);

@@ -29,112 +29,59 @@ static size_t most[2 * (QUERY + 1) + 1]; /* by function, without a report and wi
             (MOST) = depth; \
     } while (0)
 
-#define LENT t, length, words, words_length
-#define REPORT (uint8_t *)&report, sizeof report
-
-static void measure(uint8_t *t, size_t length, size_t words_length, const struct event *e, bool reported)
+static void measure(uint8_t *t, size_t length, size_t words_length, const struct event *e)
 {
-    size_t *of = &most[2 * e->function + reported];
-    switch (2 * e->function + reported) {
-    case 2 * CALL:
-        MEASURE(*of, vradomil_call(LENT, e->process, e->index, e->op, e->uaddr, e->val, e->flag, e->time, e->uaddr2, e->val3));
-        break;
-    case 2 * CALL + 1:
-        MEASURE(*of, vradomil_call_report(LENT, e->process, e->index, e->op, e->uaddr, e->val, e->flag, e->time, e->uaddr2, e->val3,
-                                          REPORT));
-        break;
-    case 2 * STORE:
-        MEASURE(*of, vradomil_store(LENT, e->process, e->uaddr, e->val));
-        break;
-    case 2 * STORE + 1:
-        MEASURE(*of, vradomil_store_report(LENT, e->process, e->uaddr, e->val, REPORT));
-        break;
-    case 2 * CLOCK:
-        MEASURE(*of, vradomil_clock(LENT, e->time));
-        break;
-    case 2 * CLOCK + 1:
-        MEASURE(*of, vradomil_clock_report(LENT, e->time, REPORT));
-        break;
-    case 2 * INTERRUPT:
-        MEASURE(*of, vradomil_interrupt(LENT, e->process, e->index));
-        break;
-    case 2 * INTERRUPT + 1:
-        MEASURE(*of, vradomil_interrupt_report(LENT, e->process, e->index, REPORT));
-        break;
-    case 2 * SET_PRIORITY:
-        MEASURE(*of, vradomil_set_priority(LENT, e->process, e->index, e->priority));
-        break;
-    case 2 * SET_PRIORITY + 1:
-        MEASURE(*of, vradomil_set_priority_report(LENT, e->process, e->index, e->priority, REPORT));
-    }
-}
-
-/* The same for the owner family and the query. */
-static void measure_owners(uint8_t *t, size_t length, size_t words_length, const struct event *e, bool reported)
-{
-    size_t *of = &most[2 * e->function + reported];
-    uint32_t cap2 = (uint32_t)e->time;
-    switch (2 * e->function + reported) {
-    case 2 * OWNER_WAIT:
-        MEASURE(*of, vradomil_owner_wait(LENT, e->process, e->index, e->uaddr, e->val, e->flag, e->time, e->owner));
-        break;
-    case 2 * OWNER_WAIT + 1:
-        MEASURE(*of, vradomil_owner_wait_report(LENT, e->process, e->index, e->uaddr, e->val, e->flag, e->time, e->owner, REPORT));
-        break;
-    case 2 * WAKE_SINGLE_OWNER:
-        MEASURE(*of, vradomil_wake_single_owner(LENT, e->process, e->index, e->uaddr));
-        break;
-    case 2 * WAKE_SINGLE_OWNER + 1:
-        MEASURE(*of, vradomil_wake_single_owner_report(LENT, e->process, e->index, e->uaddr, REPORT));
-        break;
-    case 2 * OWNER_REQUEUE:
-        MEASURE(*of, vradomil_owner_requeue(LENT, e->process, e->index, e->uaddr, e->val, e->val3, e->uaddr2, cap2, e->owner,
-                                            e->single));
-        break;
-    case 2 * OWNER_REQUEUE + 1:
-        MEASURE(*of, vradomil_owner_requeue_report(LENT, e->process, e->index, e->uaddr, e->val, e->val3, e->uaddr2, cap2, e->owner,
-                                                   e->single, REPORT));
-        break;
-    case 2 * GET_OWNER:
-        MEASURE(*of, vradomil_get_owner(LENT, e->process, e->index, e->uaddr));
-        break;
-    case 2 * GET_OWNER + 1:
-        MEASURE(*of, vradomil_get_owner_report(LENT, e->process, e->index, e->uaddr, REPORT));
-        break;
-    case 2 * QUERY:
-        MEASURE(*of, vradomil_query(t, length, e->process));
-    }
-}
-
-/* An event without a report and with one, each on tables as they were. */
-static void measure_both(const struct vradomil_tables *tables, size_t length, size_t words_length, const struct event *e)
-{
+    uint8_t *r = (uint8_t *)&report;
+    size_t *of = &most[2 * e->function];
     struct vradomil_tables copy;
-    for (int reported = 0; reported < 2; reported++) {
-        memcpy(&copy, tables, sizeof copy);
-        measure((uint8_t *)&copy, length, words_length, e, reported);
-        measure_owners((uint8_t *)&copy, length, words_length, e, reported);
+    memcpy(&copy, t, sizeof copy);
+    switch (e->function) {
+    case CALL:
+        MEASURE(of[0], vradomil_call(t, length, words, words_length, e->process, e->index, e->op, e->uaddr, e->val, e->flag, e->time,
+                                     e->uaddr2, e->val3));
+        memcpy(t, &copy, sizeof copy);
+        MEASURE(of[1], vradomil_call_report(t, length, words, words_length, e->process, e->index, e->op, e->uaddr, e->val, e->flag,
+                                            e->time, e->uaddr2, e->val3, r, sizeof report));
+        break;
+    case STORE:
+        MEASURE(of[0], vradomil_store(t, length, words, words_length, e->process, e->uaddr, e->val));
+        MEASURE(of[1], vradomil_store_report(t, length, words, words_length, e->process, e->uaddr, e->val, r, sizeof report));
+        break;
+    case CLOCK:
+        MEASURE(of[0], vradomil_clock(t, length, words, words_length, e->time));
+        memcpy(t, &copy, sizeof copy);
+        MEASURE(of[1], vradomil_clock_report(t, length, words, words_length, e->time, r, sizeof report));
+        break;
+    case INTERRUPT:
+        MEASURE(of[0], vradomil_interrupt(t, length, words, words_length, e->process, e->index));
+        memcpy(t, &copy, sizeof copy);
+        MEASURE(of[1], vradomil_interrupt_report(t, length, words, words_length, e->process, e->index, r, sizeof report));
+        break;
+    case SET_PRIORITY:
+        MEASURE(of[0], vradomil_set_priority(t, length, words, words_length, e->process, e->index, e->priority));
+        MEASURE(of[1], vradomil_set_priority_report(t, length, words, words_length, e->process, e->index, e->priority, r, sizeof report));
+        break;
+    default:
+        MEASURE(of[0], vradomil_query(t, length, e->process));
     }
+    memcpy(t, &copy, sizeof copy);
 }
 
 /* One event, as it is and on buffers of a wrong length. */
-static void measure_sample(const struct sample *s)
+static void measure_sample(struct sample *s)
 {
+    uint8_t *t = (uint8_t *)&s->tables;
     for (size_t i = 0; i < VRADOMIL_WORDS; i++)
         memcpy(words + 4 * i, &(int32_t){WORD_VALUE}, 4);
-    measure_both(&s->tables, sizeof s->tables, sizeof words, &s->event);
-    measure_both(&s->tables, sizeof s->tables - 1, sizeof words, &s->event);
-    measure_both(&s->tables, sizeof s->tables, sizeof words - 1, &s->event);
+    measure(t, sizeof s->tables, sizeof words, &s->event);
+    measure(t, sizeof s->tables - 1, sizeof words, &s->event);
+    measure(t, sizeof s->tables, sizeof words - 1, &s->event);
 }
 
 int main(void)
 {
-    static const struct fill fills[] = {
-        {0, 0, true, false}, {1, 1, true, true}, {32, 1, true, true}, {32, 7, true, true}, {63, 3, true, false}, {63, 3, true, true},
-        {63, 7, true, true},
-    };
-    static const char *const names[] = {"call", "store", "clock", "interrupt", "set_priority", "owner_wait", "wake_single_owner",
-                                        "owner_requeue", "get_owner"};
+    static const struct fill fills[] = {{0, 0, true}, {1, 1, true}, {32, 1, true}, {32, 7, true}, {63, 3, true}, {63, 7, true}};
+    static const char *const names[] = {"call", "store", "clock", "interrupt", "set_priority", "query"};
     static struct sample s;
     for (int kind = 0; kind < KINDS; kind++)
         for (size_t k = 0; k < sizeof fills / sizeof *fills; k++)
@@ -143,8 +90,8 @@ int main(void)
                 measure_sample(&s);
             }
     MEASURE(most[2 * (QUERY + 1)], vradomil_fresh((uint8_t *)&s.tables, sizeof s.tables));
-    printf("%-18s %8s %12s\n", "vradomil_", "bytes", "with report");
+    printf("%-14s %8s %12s\n", "vradomil_", "bytes", "with report");
     for (int f = CALL; f < QUERY; f++)
-        printf("%-18s %8zu %12zu\n", names[f], most[2 * f], most[2 * f + 1]);
-    printf("%-18s %8zu\n%-18s %8zu\n", "query", most[2 * QUERY], "fresh", most[2 * (QUERY + 1)]);
+        printf("%-14s %8zu %12zu\n", names[f], most[2 * f], most[2 * f + 1]);
+    printf("%-14s %8zu\n%-14s %8zu\n", "query", most[2 * QUERY], "fresh", most[2 * (QUERY + 1)]);
 }

@@ -1,7 +1,7 @@
 /*
  * The same kernel as plain.h's, tuned by hand: loops without a branch on what the tables hold, eight bytes at a time, the earliest
- * deadline and each sleeper's place in the list kept from the check, and owners looked at only where there are any. A second measure,
- * for what is left to gain; nothing else uses it.
+ * deadline and each sleeper's place in the list kept from the check. A second measure, for what is left to gain; nothing else uses
+ * it.
  *
  * Unlike the library it wants the tables at an address that is a multiple of 8.
  */
@@ -20,15 +20,6 @@ int32_t tuned_interrupt(uint8_t *tables, size_t tables_len, const uint8_t *words
                         uint8_t index);
 int32_t tuned_set_priority(uint8_t *tables, size_t tables_len, const uint8_t *words, size_t words_len, uint8_t process,
                            uint8_t index, uint8_t priority);
-int32_t tuned_owner_wait(uint8_t *tables, size_t tables_len, uint8_t *words, size_t words_len, uint8_t process, uint8_t index,
-                         uint32_t uaddr, uint32_t val, uint8_t flag, uint64_t deadline, uint8_t owner);
-int32_t tuned_wake_single_owner(uint8_t *tables, size_t tables_len, uint8_t *words, size_t words_len, uint8_t process,
-                                uint8_t index, uint32_t uaddr);
-int32_t tuned_owner_requeue(uint8_t *tables, size_t tables_len, uint8_t *words, size_t words_len, uint8_t process,
-                            uint8_t index, uint32_t uaddr, uint32_t cap, uint32_t val, uint32_t uaddr2, uint32_t cap2,
-                            uint8_t owner, uint8_t single);
-int32_t tuned_get_owner(const uint8_t *tables, size_t tables_len, const uint8_t *words, size_t words_len, uint8_t process,
-                        uint8_t index, uint32_t uaddr);
 uint32_t tuned_query(const uint8_t *tables, size_t tables_len, uint8_t process);
 int32_t tuned_call_report(uint8_t *tables, size_t tables_len, uint8_t *words, size_t words_len, uint8_t process, uint8_t index,
                           uint32_t op, uint32_t uaddr, uint32_t val, uint8_t flag, uint64_t timeout, uint32_t uaddr2,
@@ -41,15 +32,5 @@ int32_t tuned_interrupt_report(uint8_t *tables, size_t tables_len, const uint8_t
                                uint8_t index, uint8_t *report, size_t report_len);
 int32_t tuned_set_priority_report(uint8_t *tables, size_t tables_len, const uint8_t *words, size_t words_len,
                                   uint8_t process, uint8_t index, uint8_t priority, uint8_t *report, size_t report_len);
-int32_t tuned_owner_wait_report(uint8_t *tables, size_t tables_len, uint8_t *words, size_t words_len, uint8_t process,
-                                uint8_t index, uint32_t uaddr, uint32_t val, uint8_t flag, uint64_t deadline, uint8_t owner,
-                                uint8_t *report, size_t report_len);
-int32_t tuned_wake_single_owner_report(uint8_t *tables, size_t tables_len, uint8_t *words, size_t words_len, uint8_t process,
-                                       uint8_t index, uint32_t uaddr, uint8_t *report, size_t report_len);
-int32_t tuned_owner_requeue_report(uint8_t *tables, size_t tables_len, uint8_t *words, size_t words_len, uint8_t process,
-                                   uint8_t index, uint32_t uaddr, uint32_t cap, uint32_t val, uint32_t uaddr2, uint32_t cap2,
-                                   uint8_t owner, uint8_t single, uint8_t *report, size_t report_len);
-int32_t tuned_get_owner_report(const uint8_t *tables, size_t tables_len, const uint8_t *words, size_t words_len,
-                               uint8_t process, uint8_t index, uint32_t uaddr, uint8_t *report, size_t report_len);
 
 #endif

@@ -1,7 +1,7 @@
 /*
  * Vradomil: a futex kernel for eight fixed processes of eight threads each.
  *
- * The host lends the kernel two buffers for the length of one call: the tables (1,424 bytes) and the futex words of all processes
+ * The host lends the kernel two buffers for the length of one call: the tables (1,360 bytes) and the futex words of all processes
  * (32,768 bytes); to a function whose name ends in _report also a third, for the report, which the kernel only writes. The kernel
  * keeps nothing of its own between calls, so a host may have several displays in one program.
  *
@@ -31,14 +31,11 @@ extern "C" {
 /* Each process has 1,024 words, at byte addresses 0, 4, .. 4092; the word at address a of process p is word 1024 * p + a / 4. */
 #define VRADOMIL_WORDS_PER_PROCESS 1024
 #define VRADOMIL_WORDS 8192
-#define VRADOMIL_TABLES_BYTES 1424
+#define VRADOMIL_TABLES_BYTES 1360
 #define VRADOMIL_WORDS_BYTES 32768
 
 /* What stands in the arrival list where no thread does. */
 #define VRADOMIL_NO_ENTRY 255
-
-/* What stands for the owner of a word that has none, in the tables and where an owner is named. */
-#define VRADOMIL_NO_OWNER 255
 
 /* The highest base priority, which is taken first. Every thread starts with 0. */
 #define VRADOMIL_MAX_PRIORITY 31
@@ -86,12 +83,11 @@ extern "C" {
 
 /* The refusals, in the order in which they are tested; the first that applies answers. They are errno numbers, negated. */
 #define VRADOMIL_ENXIO (-6)       /* the words are not 32,768 bytes */
-#define VRADOMIL_EBADF (-9)       /* the tables are not 1,424 bytes, have a byte that stands for nothing, or break a table rule */
-#define VRADOMIL_ESRCH (-3)       /* the process or the index is above 7; also, but after -11, an owner above 7 that is not 255 */
+#define VRADOMIL_EBADF (-9)       /* the tables are not 1,360 bytes, have a byte that stands for nothing, or break a table rule */
+#define VRADOMIL_ESRCH (-3)       /* the process or the index is above 7 */
 #define VRADOMIL_EBUSY (-16)      /* the calling thread is asleep */
 #define VRADOMIL_ENOSYS (-38)     /* unknown command or option; also, but after -14, an undefined part of WAKE_OP's val3 */
-#define VRADOMIL_EINVAL (-22)     /* an argument that no event may have, or, but after -3 for an owner, a thread that would sleep on a word
-                                     that it owns; VRADOMIL_REASON_.. says which */
+#define VRADOMIL_EINVAL (-22)     /* an argument that no event may have; VRADOMIL_REASON_.. says which */
 #define VRADOMIL_EFAULT (-14)     /* an address in use is 4096 or more */
 #define VRADOMIL_EAGAIN (-11)     /* the compared word holds another number */
 #define VRADOMIL_ETIMEDOUT (-110) /* the deadline of the wait is not ahead; the thread did not sleep */
@@ -104,16 +100,14 @@ extern "C" {
  * futex(2)'s arguments: val2 is the second cap, which comes in the place of timeout.
  */
 #define VRADOMIL_REASON_NONE 0
-#define VRADOMIL_REASON_VAL 1        /* the cap val is above 2147483647: WAKE, WAKE_BITSET, REQUEUE, CMP_REQUEUE, WAKE_OP, an owner
-                                        requeue whose single is 0 */
-#define VRADOMIL_REASON_VAL2 2       /* the second cap is above 2147483647: REQUEUE, CMP_REQUEUE, WAKE_OP, an owner requeue */
+#define VRADOMIL_REASON_VAL 1        /* the cap val is above 2147483647: WAKE, WAKE_BITSET, REQUEUE, CMP_REQUEUE, WAKE_OP */
+#define VRADOMIL_REASON_VAL2 2       /* the second cap is above 2147483647: REQUEUE, CMP_REQUEUE, WAKE_OP */
 #define VRADOMIL_REASON_VAL3 3       /* the mask val3 is 0: WAIT_BITSET, WAKE_BITSET */
 #define VRADOMIL_REASON_UADDR 4      /* uaddr, or a store's address, is not a multiple of 4 */
-#define VRADOMIL_REASON_UADDR2 5     /* uaddr2 is not a multiple of 4: REQUEUE, CMP_REQUEUE, WAKE_OP, an owner requeue */
-#define VRADOMIL_REASON_SAME_UADDR 6 /* uaddr2 is uaddr: REQUEUE, CMP_REQUEUE, an owner requeue */
+#define VRADOMIL_REASON_UADDR2 5     /* uaddr2 is not a multiple of 4: REQUEUE, CMP_REQUEUE, WAKE_OP */
+#define VRADOMIL_REASON_SAME_UADDR 6 /* uaddr2 is uaddr: REQUEUE, CMP_REQUEUE */
 #define VRADOMIL_REASON_CLOCK 7      /* the time of a clock event is before the clock */
 #define VRADOMIL_REASON_PRIORITY 8   /* the priority to be set is above 31 */
-#define VRADOMIL_REASON_OWNER 9      /* a thread would be asleep on a word that it owns: every wait and requeue */
 
 /* How the answer of a thread's last ended sleep stands in the tables. */
 #define VRADOMIL_LAST_NONE 0
@@ -136,7 +130,6 @@ struct vradomil_tables {
     uint32_t bitset[VRADOMIL_THREADS];         /* its mask */
     uint64_t deadline[VRADOMIL_THREADS];       /* on the kernel's clock */
     uint8_t priority[VRADOMIL_THREADS];        /* the base priority, 0 to 31; the highest is taken first */
-    uint8_t owner[VRADOMIL_THREADS];           /* of a sleeper, the owner of its word: an index of its process, or 255 */
 };
 
 /* What a report says beside the answer, laid over its bytes. Later versions may add fields, at the end only. */
@@ -148,7 +141,7 @@ struct vradomil_report {
 #ifdef __BYTE_ORDER__
 VRADOMIL_ASSERT(__BYTE_ORDER__ == __ORDER_LITTLE_ENDIAN__, "the numbers in tables and words are little-endian");
 #endif
-VRADOMIL_ASSERT(sizeof(struct vradomil_tables) == VRADOMIL_TABLES_BYTES, "1,424 bytes, no padding");
+VRADOMIL_ASSERT(sizeof(struct vradomil_tables) == VRADOMIL_TABLES_BYTES, "1,360 bytes, no padding");
 VRADOMIL_ASSERT(offsetof(struct vradomil_tables, clock) == 0, "clock at 0");
 VRADOMIL_ASSERT(offsetof(struct vradomil_tables, count) == 8, "count at 8");
 VRADOMIL_ASSERT(offsetof(struct vradomil_tables, list) == 16, "list at 16");
@@ -159,15 +152,14 @@ VRADOMIL_ASSERT(offsetof(struct vradomil_tables, uaddr) == 272, "uaddr at 272");
 VRADOMIL_ASSERT(offsetof(struct vradomil_tables, bitset) == 528, "bitset at 528");
 VRADOMIL_ASSERT(offsetof(struct vradomil_tables, deadline) == 784, "deadline at 784");
 VRADOMIL_ASSERT(offsetof(struct vradomil_tables, priority) == 1296, "priority at 1296");
-VRADOMIL_ASSERT(offsetof(struct vradomil_tables, owner) == 1360, "owner at 1360");
 VRADOMIL_ASSERT(4 * VRADOMIL_WORDS == VRADOMIL_WORDS_BYTES, "8,192 words of 32 bits");
 VRADOMIL_ASSERT(sizeof(struct vradomil_report) == VRADOMIL_REPORT_BYTES, "1 byte, no padding");
 VRADOMIL_ASSERT(offsetof(struct vradomil_report, reason) == 0, "reason at 0");
 
 /*
- * Lays down the fresh tables: clock 0, all threads running, no sleep ended yet, all priorities 0, no owners, the list empty. The words may
+ * Lays down the fresh tables: clock 0, all threads running, no sleep ended yet, all priorities 0, the list empty. The words may
  * start as anything.
- * Answers 0, or -9 if tables_len is not 1,424, and then writes nothing.
+ * Answers 0, or -9 if tables_len is not 1,360, and then writes nothing.
  */
 int32_t vradomil_fresh(uint8_t *tables, size_t tables_len);
 
@@ -190,14 +182,9 @@ int32_t vradomil_fresh(uint8_t *tables, size_t tables_len);
  *
  * Answers VRADOMIL_ASLEEP if the caller now sleeps: the host must not run that thread until its byte in waiting is 0 again, and
  * then the call's value for the thread is vradomil_last_answer. Otherwise answers how many sleepers were released (CMP_REQUEUE:
- * released plus moved), or a refusal: -6, -9, -3, -16, -38, -22, -14, -38, -11, -22 or -110, tested in this order.
+ * released plus moved), or a refusal: -6, -9, -3, -16, -38, -22, -14, -38, -11 or -110, tested in this order.
  *
- * The first -22 comes with one of the reasons VRADOMIL_REASON_VAL to VRADOMIL_REASON_SAME_UADDR, the second with VRADOMIL_REASON_OWNER;
- * vradomil_call_report tells which.
- *
- * Owners (see vradomil_owner_wait): a wake or requeue that is not refused takes the owner from uaddr, whomever it released, and a
- * WAKE_OP also from uaddr2 if its comparison is true. A wait leaves its word its owner, a requeue leaves uaddr2 its own; where the owner
- * would then be asleep there, the call is refused with VRADOMIL_REASON_OWNER, whatever its deadline.
+ * -22 comes with one of the reasons VRADOMIL_REASON_VAL to VRADOMIL_REASON_SAME_UADDR, which vradomil_call_report tells.
  *
  * A refusal changes nothing; a wait refused with -110 leaves the last answer too.
  */
@@ -235,43 +222,7 @@ int32_t vradomil_set_priority(uint8_t *tables, size_t tables_len, const uint8_t 
                               uint8_t index, uint8_t priority);
 
 /*
- * The owner family. A word that has sleepers may have an owner, a thread of the same process: whoever holds the lock for which they wait.
- * A word that loses its last sleeper has none. No thread is ever asleep on a word that it owns. The kernel keeps who owns a word and tells
- * it; it lends no priority yet.
- *
- * vradomil_owner_wait sleeps at uaddr if the word there is val, as a WAIT_BITSET with all mask bits does; the deadline is absolute, and
- * flag says whether it is given: 0 is no, all else yes. It names the word's owner: an index of the process, or VRADOMIL_NO_OWNER.
- * Answers as vradomil_call, with -3 also, after -11, for an owner above 7 that is not 255.
- */
-int32_t vradomil_owner_wait(uint8_t *tables, size_t tables_len, uint8_t *words, size_t words_len, uint8_t process, uint8_t index,
-                            uint32_t uaddr, uint32_t val, uint8_t flag, uint64_t deadline, uint8_t owner);
-
-/*
- * Releases the first sleeper at uaddr, as a WAKE of 1 does; if others still sleep there, it becomes the word's owner.
- * Answers 1, or 0 if nobody sleeps there and nothing changes, or refuses as a WAKE does.
- */
-int32_t vradomil_wake_single_owner(uint8_t *tables, size_t tables_len, uint8_t *words, size_t words_len, uint8_t process,
-                                   uint8_t index, uint32_t uaddr);
-
-/*
- * If the word at uaddr is val, releases the first cap sleepers there and moves the next, up to cap2, to uaddr2, as a CMP_REQUEUE does.
- * It names the owner of uaddr2, which is set if threads then sleep there, moved or not. If single is 0, the word at uaddr loses its
- * owner. If not, cap is ignored: one is released and, if sleepers are left at uaddr, becomes its owner.
- * Answers released plus moved, or refuses as a CMP_REQUEUE does, with -3 also, after -11, for an owner above 7 that is not 255.
- */
-int32_t vradomil_owner_requeue(uint8_t *tables, size_t tables_len, uint8_t *words, size_t words_len, uint8_t process,
-                               uint8_t index, uint32_t uaddr, uint32_t cap, uint32_t val, uint32_t uaddr2, uint32_t cap2,
-                               uint8_t owner, uint8_t single);
-
-/*
- * Who owns the word at uaddr. Changes nothing.
- * Answers the index, 255 (VRADOMIL_NO_OWNER) if nobody does, or refuses as a WAKE does: a thread that is asleep cannot ask.
- */
-int32_t vradomil_get_owner(const uint8_t *tables, size_t tables_len, const uint8_t *words, size_t words_len, uint8_t process,
-                           uint8_t index, uint32_t uaddr);
-
-/*
- * The nine events once more, with a report: each does and answers what the function without _report does, and also writes as many
+ * The five events once more, with a report: each does and answers what the function without _report does, and also writes as many
  * bytes of the report as report_len has room for, none if it is 0. It writes them with every answer, so that nothing of an earlier
  * event stays there; bytes behind the report stay as they were. Lend it a struct vradomil_report and the struct's own size: the
  * host then goes on working, without being compiled again, with a later library whose report is longer. A query has no report.
@@ -287,16 +238,6 @@ int32_t vradomil_interrupt_report(uint8_t *tables, size_t tables_len, const uint
                                   uint8_t index, uint8_t *report, size_t report_len);
 int32_t vradomil_set_priority_report(uint8_t *tables, size_t tables_len, const uint8_t *words, size_t words_len,
                                      uint8_t process, uint8_t index, uint8_t priority, uint8_t *report, size_t report_len);
-int32_t vradomil_owner_wait_report(uint8_t *tables, size_t tables_len, uint8_t *words, size_t words_len, uint8_t process,
-                                   uint8_t index, uint32_t uaddr, uint32_t val, uint8_t flag, uint64_t deadline, uint8_t owner,
-                                   uint8_t *report, size_t report_len);
-int32_t vradomil_wake_single_owner_report(uint8_t *tables, size_t tables_len, uint8_t *words, size_t words_len, uint8_t process,
-                                          uint8_t index, uint32_t uaddr, uint8_t *report, size_t report_len);
-int32_t vradomil_owner_requeue_report(uint8_t *tables, size_t tables_len, uint8_t *words, size_t words_len, uint8_t process,
-                                      uint8_t index, uint32_t uaddr, uint32_t cap, uint32_t val, uint32_t uaddr2, uint32_t cap2,
-                                      uint8_t owner, uint8_t single, uint8_t *report, size_t report_len);
-int32_t vradomil_get_owner_report(const uint8_t *tables, size_t tables_len, const uint8_t *words, size_t words_len,
-                                  uint8_t process, uint8_t index, uint32_t uaddr, uint8_t *report, size_t report_len);
 
 /*
  * Which threads of a process sleep. Changes nothing and is never refused.
@@ -338,7 +279,7 @@ static inline int32_t vradomil_last_answer(uint8_t last)
     }
 }
 
-/* In words, what a function or vradomil_last_answer answers; 1 is taken for a count. Not for vradomil_query and vradomil_get_owner. */
+/* In words, what a function or vradomil_last_answer answers; 1 is taken for a count. Not for vradomil_query. */
 static inline const char *vradomil_answer_text(int32_t answer)
 {
     switch (answer) {
@@ -351,7 +292,7 @@ static inline const char *vradomil_answer_text(int32_t answer)
     case VRADOMIL_EBADF:
         return "tables of a wrong length, or broken";
     case VRADOMIL_ESRCH:
-        return "no such process or thread, or no such owner";
+        return "no such process or thread";
     case VRADOMIL_EBUSY:
         return "the calling thread is asleep";
     case VRADOMIL_ENOSYS:
@@ -393,8 +334,6 @@ static inline const char *vradomil_reason_text(uint8_t reason)
         return "the clock went back";
     case VRADOMIL_REASON_PRIORITY:
         return "the priority is above 31";
-    case VRADOMIL_REASON_OWNER:
-        return "a thread would be asleep on a word that it owns";
     default:
         return "not a reason";
     }

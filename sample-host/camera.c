@@ -44,8 +44,7 @@ static int32_t one_event(struct host *h, struct flood *flood, struct vradomil_re
     uint32_t val = draw(flood) % 2 ? own_word(h, uaddr) : number(flood);
     uint8_t flag = draw(flood) % 2;
     uint64_t timeout = draw(flood) % 2 ? number(flood) : draw(flood);
-    uint8_t owner = draw(flood) % 2 ? VRADOMIL_NO_OWNER : (uint8_t)(draw(flood) % 9); /* 8 again */
-    switch (draw(flood) % 12) {
+    switch (draw(flood) % 8) {
     case 0:
         return vradomil_store_report(tables, sizeof h->tables, h->words, sizeof h->words, CAMERA, uaddr, val, r, sizeof *report);
     case 1:
@@ -53,18 +52,6 @@ static int32_t one_event(struct host *h, struct flood *flood, struct vradomil_re
     case 2: /* half of the priorities are too high */
         return vradomil_set_priority_report(tables, sizeof h->tables, h->words, sizeof h->words, CAMERA, index,
                                             (uint8_t)(draw(flood) % 64), r, sizeof *report);
-    case 3:
-        return vradomil_owner_wait_report(tables, sizeof h->tables, h->words, sizeof h->words, CAMERA, index, uaddr, val, flag,
-                                          timeout, owner, r, sizeof *report);
-    case 4:
-        return vradomil_wake_single_owner_report(tables, sizeof h->tables, h->words, sizeof h->words, CAMERA, index, uaddr, r,
-                                                 sizeof *report);
-    case 5:
-        return vradomil_owner_requeue_report(tables, sizeof h->tables, h->words, sizeof h->words, CAMERA, index, uaddr, val3,
-                                             own_word(h, uaddr), uaddr2, (uint32_t)timeout, owner, flag, r, sizeof *report);
-    case 6:
-        return vradomil_get_owner_report(tables, sizeof h->tables, h->words, sizeof h->words, CAMERA, index, uaddr, r,
-                                         sizeof *report);
     default:
         return vradomil_call_report(tables, sizeof h->tables, h->words, sizeof h->words, CAMERA, index, command, uaddr, val, flag,
                                     timeout, uaddr2, val3, r, sizeof *report);
@@ -80,7 +67,7 @@ void camera_flood(struct host *h, struct flood *flood, unsigned calls)
         flood->asleep += answer == VRADOMIL_ASLEEP;
         flood->refused += answer < 0;
         flood->reasons[report.reason]++;
-        /* As after every event, though an owner is no count. Only threads of the camera can run again, and have no program. */
+        /* As after every event. Only threads of the camera can run again, and the host has no program for those. */
         if (answer > 0)
             host_collect(h);
     }

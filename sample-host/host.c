@@ -162,14 +162,16 @@ int32_t host_call(struct host *h, uint8_t process, uint8_t index, struct futex c
 }
 
 /*
- * What the running thread gets for its call. It returns when the call has ended: at once, or after a sleep. The programs here are
- * the host's own and make no wrong calls; a host for others hands -22, -14 and -38 to the caller, and -3 where it named the owner.
+ * The futex call of the running thread. It returns when the call has ended: at once, or after a sleep. The programs here are the
+ * host's own and make no wrong calls; a host for others hands -22, -14 and -38 to the caller.
  */
-static int32_t ended(struct host *h, const char *what, int32_t answer, struct vradomil_report report)
+int32_t futex(struct host *h, struct futex call)
 {
     struct thread *t = &h->threads[h->running];
+    struct vradomil_report report;
+    int32_t answer = host_call(h, (uint8_t)(h->running / 8), (uint8_t)(h->running % 8), call, &report);
     if (answer != VRADOMIL_EAGAIN && answer != VRADOMIL_ETIMEDOUT)
-        granted(what, answer, report);
+        granted("futex call", answer, report);
     if (answer == VRADOMIL_ASLEEP) {
         t->asleep = true;
         pause_turn(h);
@@ -178,56 +180,4 @@ static int32_t ended(struct host *h, const char *what, int32_t answer, struct vr
     if (answer > 0)
         host_collect(h);
     return answer;
-}
-
-static uint8_t own_process(const struct host *h)
-{
-    return (uint8_t)(h->running / 8);
-}
-
-uint8_t own_index(const struct host *h)
-{
-    return (uint8_t)(h->running % 8);
-}
-
-int32_t futex(struct host *h, struct futex call)
-{
-    struct vradomil_report report;
-    int32_t answer = host_call(h, own_process(h), own_index(h), call, &report);
-    return ended(h, "futex call", answer, report);
-}
-
-/* Without a deadline: it isn't looked at. */
-int32_t owner_wait(struct host *h, uint32_t uaddr, uint32_t val, uint8_t owner)
-{
-    struct vradomil_report report;
-    int32_t answer = vradomil_owner_wait_report(tables(h), sizeof h->tables, h->words, sizeof h->words, own_process(h),
-                                                own_index(h), uaddr, val, 0, 0, owner, (uint8_t *)&report, sizeof report);
-    return ended(h, "owner wait", answer, report);
-}
-
-int32_t wake_single_owner(struct host *h, uint32_t uaddr)
-{
-    struct vradomil_report report;
-    int32_t answer = vradomil_wake_single_owner_report(tables(h), sizeof h->tables, h->words, sizeof h->words, own_process(h),
-                                                       own_index(h), uaddr, (uint8_t *)&report, sizeof report);
-    return ended(h, "single-owner wake", answer, report);
-}
-
-int32_t owner_requeue(struct host *h, struct owner_requeue call)
-{
-    struct vradomil_report report;
-    int32_t answer = vradomil_owner_requeue_report(tables(h), sizeof h->tables, h->words, sizeof h->words, own_process(h),
-                                                   own_index(h), call.uaddr, call.cap, call.val, call.uaddr2, call.cap2, call.owner,
-                                                   call.single, (uint8_t *)&report, sizeof report);
-    return ended(h, "owner requeue", answer, report);
-}
-
-/* An index or VRADOMIL_NO_OWNER, and no count: nobody runs again. */
-int32_t get_owner(struct host *h, uint32_t uaddr)
-{
-    struct vradomil_report report;
-    int32_t answer = vradomil_get_owner_report(tables(h), sizeof h->tables, h->words, sizeof h->words, own_process(h), own_index(h),
-                                               uaddr, (uint8_t *)&report, sizeof report);
-    return granted("owner query", answer, report);
 }

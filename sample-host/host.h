@@ -43,13 +43,6 @@ struct futex {
     uint32_t uaddr2, cap2, val3;
 };
 
-/* The arguments of an owner requeue; owner is that of uaddr2 from then on. */
-struct owner_requeue {
-    uint32_t uaddr, cap, val, uaddr2, cap2;
-    uint8_t owner;
-    bool single;
-};
-
 /* For the main program. */
 void host_start(struct host *h);
 /* One futex call by any thread, as the library answers it. */
@@ -64,15 +57,10 @@ void host_set_priority(struct host *h, uint8_t process, uint8_t index, uint8_t p
 /* To be told of every answer above 0: some thread may run again. */
 void host_collect(struct host *h);
 
-/* For the threads: their own index and the words of their own process, the futex call, the owner family, and the end of a turn. */
-uint8_t own_index(const struct host *h);
+/* For the threads: the words of their own process, the futex call, and the end of a turn. */
 uint32_t load(const struct host *h, uint32_t address);
 void store(struct host *h, uint32_t address, uint32_t value);
 int32_t futex(struct host *h, struct futex call);
-int32_t owner_wait(struct host *h, uint32_t uaddr, uint32_t val, uint8_t owner);
-int32_t wake_single_owner(struct host *h, uint32_t uaddr);
-int32_t owner_requeue(struct host *h, struct owner_requeue call);
-int32_t get_owner(struct host *h, uint32_t uaddr);
 void pause_turn(struct host *h);
 void say(struct host *h, const char *format, ...) __attribute__((format(printf, 2, 3)));
 

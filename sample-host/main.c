@@ -68,7 +68,7 @@ static size_t sleepers(const struct vradomil_tables *t, uint8_t *order)
     return n;
 }
 
-/* Whether all that belongs to the other processes is the same: answers, words, records, owners, order of sleepers. */
+/* Whether all that belongs to the other processes is the same: answers, words, records, order of sleepers. */
 static bool same(const struct host *a, const struct host *b)
 {
     const struct vradomil_tables *t = &a->tables, *u = &b->tables;
@@ -78,20 +78,19 @@ static bool same(const struct host *a, const struct host *b)
     for (size_t k = 8 * (CAMERA + 1); k < VRADOMIL_THREADS; k++)
         equal = equal && t->waiting[k] == u->waiting[k] && t->timed[k] == u->timed[k] && t->last[k] == u->last[k] &&
                 t->uaddr[k] == u->uaddr[k] && t->bitset[k] == u->bitset[k] && t->deadline[k] == u->deadline[k] &&
-                t->priority[k] == u->priority[k] && t->owner[k] == u->owner[k];
+                t->priority[k] == u->priority[k];
     size_t others = 4096 * (CAMERA + 1);
     return equal && memcmp(a->words + others, b->words + others, sizeof a->words - others) == 0 && a->traced == b->traced &&
            memcmp(a->trace, b->trace, a->traced) == 0;
 }
 
-/* The locks must have done their work: every tile painted once, every round of the workers counted, every line in the book. */
+/* The locks must have done their work: every tile painted once, every round of the workers counted. */
 static bool counted(const struct host *h)
 {
-    uint32_t painted, done, lines;
+    uint32_t painted, done;
     memcpy(&painted, h->words + 4096 * MAP + MAP_PAINTED, sizeof painted);
     memcpy(&done, h->words + 4096 * SECTIONS + SECTIONS_DONE, sizeof done);
-    memcpy(&lines, h->words + 4096 * STOP_KEY + BOOK_LINES, sizeof lines);
-    return painted == ROUNDS * PAINTERS && done == ROUNDS * WORKERS && lines == LINES;
+    return painted == ROUNDS * PAINTERS && done == ROUNDS * WORKERS;
 }
 
 static void tell_flood(const struct host *h, const struct flood *flood)

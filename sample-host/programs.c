@@ -5,7 +5,7 @@
 /* Addresses of futex words and shared numbers; each process has its own. */
 enum { MAP_MUTEX = 0, MAP_COND = 4, MAP_TILES = 8 };
 enum { SECTIONS_MUTEX = 0 };
-enum { KEY = 0, PRESSER_NAP = 4, LOGGER_NAP = 8, BOOK_MUTEX = 12 };
+enum { KEY = 0, PRESSER_NAP = 4, LOGGER_NAP = 8 };
 
 /* Sleeps for a time: a wait at a word that nobody wakes. */
 static void nap(struct host *h, uint32_t word, uint64_t time)
@@ -18,22 +18,22 @@ void map_loader(struct host *h)
 {
     for (int round = 0; round < ROUNDS; round++) {
         pause_turn(h);
-        owned_lock(h, MAP_MUTEX);
+        mutex_lock(h, MAP_MUTEX);
         store(h, MAP_TILES, load(h, MAP_TILES) + PAINTERS);
         cond_broadcast(h, MAP_COND, MAP_MUTEX);
-        owned_unlock(h, MAP_MUTEX);
+        mutex_unlock(h, MAP_MUTEX);
     }
 }
 
 void map_painter(struct host *h)
 {
     for (int round = 0; round < ROUNDS; round++) {
-        owned_lock(h, MAP_MUTEX);
+        mutex_lock(h, MAP_MUTEX);
         while (load(h, MAP_TILES) == 0)
             cond_wait(h, MAP_COND, MAP_MUTEX);
         store(h, MAP_TILES, load(h, MAP_TILES) - 1);
         store(h, MAP_PAINTED, load(h, MAP_PAINTED) + 1);
-        owned_unlock(h, MAP_MUTEX);
+        mutex_unlock(h, MAP_MUTEX);
     }
 }
 
@@ -72,52 +72,32 @@ static void await_key(struct host *h, uint64_t deadline)
     }
 }
 
-/* A line in the book that the three threads of the stop key share. */
-static void write_down(struct host *h)
-{
-    owned_lock(h, BOOK_MUTEX);
-    store(h, BOOK_LINES, load(h, BOOK_LINES) + 1);
-    owned_unlock(h, BOOK_MUTEX);
-}
-
-/* The sprayer is off before it waits for the book. */
 void stop_key(struct host *h)
 {
     await_key(h, 100);
     store(h, KEY, 0);
-    write_down(h);
     await_key(h, 90);
-    write_down(h);
     nap(h, KEY, 60); /* the key is pressed meanwhile: the wake ends the nap, and the word tells */
     await_key(h, 400);
     store(h, KEY, 0);
-    write_down(h);
     await_key(h, 1000);
-    write_down(h);
 }
 
 void key_presser(struct host *h)
 {
-    static const uint64_t naps[] = {35, 60};
+    static const uint64_t naps[] = {35, 90};
     for (int press = 0; press < 2; press++) {
         nap(h, PRESSER_NAP, naps[press]);
         store(h, KEY, 1);
         int32_t woken = futex(h, (struct futex){.op = VRADOMIL_WAKE, .uaddr = KEY, .val = 1});
         say(h, "presses the key, wakes %d", (int)woken);
-        write_down(h);
     }
 }
 
-/*
- * Naps with the book in hand, so that the other two wait for the book, and for whom is known. Then waits for the key, too, from
- * before the stop key naps there: it arrived first, and has the lower priority.
- */
+/* Waits for the key, too, from before the stop key naps there: it arrived first, and has the lower priority. */
 void key_logger(struct host *h)
 {
-    owned_lock(h, BOOK_MUTEX);
-    store(h, BOOK_LINES, 1);
     nap(h, LOGGER_NAP, 55);
-    owned_unlock(h, BOOK_MUTEX);
     say(h, "waits for the key, to log it, until 200");
     int32_t answer = futex(h, (struct futex){.op = VRADOMIL_WAIT_BITSET,
                                              .uaddr = KEY,
@@ -126,5 +106,4 @@ void key_logger(struct host *h)
                                              .timed = true,
                                              .timeout = 200});
     say(h, "answer %d: %s", (int)answer, answer == VRADOMIL_ETIMEDOUT ? "the stop key went first" : "logs the key");
-    write_down(h);
 }

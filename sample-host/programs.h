@@ -6,8 +6,8 @@
 
 program_t map_loader, map_painter, section_worker, stop_key, key_presser, key_logger;
 
-/* How often each painter and section worker does its work, the lines of the stop key's book, and the words that count them. */
-enum { ROUNDS = 2, PAINTERS = 3, WORKERS = 3, LINES = 8 };
-enum { MAP_PAINTED = 12, SECTIONS_DONE = 4, BOOK_LINES = 16 };
+/* How often each painter and each section worker does its work, and the words that count it. */
+enum { ROUNDS = 2, PAINTERS = 3, WORKERS = 3 };
+enum { MAP_PAINTED = 12, SECTIONS_DONE = 4 };
 
 #endif

@@ -72,11 +72,11 @@ static uint8_t small(void)
     return (uint8_t)(draw() % 8 ? draw() % 8 : draw());
 }
 
-enum function { STORE, CLOCK, INTERRUPT, SET_PRIORITY, OWNER_WAIT, WAKE_SINGLE_OWNER, OWNER_REQUEUE, GET_OWNER, QUERY, CALL };
+enum function { STORE, CLOCK, INTERRUPT, SET_PRIORITY, QUERY, CALL };
 
 struct event {
     enum function function;
-    uint8_t process, index, flag, priority, owner;
+    uint8_t process, index, flag, priority;
     uint32_t op, uaddr, val, uaddr2, val3;
     uint64_t time;
 };
@@ -85,11 +85,10 @@ static struct event make_event(void)
 {
     static const uint32_t ops[] = {0, 0, 9, 9, 1, 3, 4, 5, 10};
     struct event e = {.process = small(), .index = small(), .flag = draw() % 2, .uaddr = number(), .uaddr2 = number()};
-    uint64_t function = draw() % 18;
+    uint64_t function = draw() % 12;
     e.function = function < CALL ? (enum function)function : CALL;
     e.op = draw() % 16 ? ops[draw() % 9] | (draw() % 4 ? 0 : 128) : (uint32_t)draw();
     e.priority = (uint8_t)(draw() % 8 ? draw() % 40 : draw());
-    e.owner = draw() % 4 ? small() : VRADOMIL_NO_OWNER;
     e.val = draw() % 8 ? 0 : number();
     e.val3 = number();
     e.time = draw() % 8 ? draw() % 64 : draw();
@@ -107,16 +106,6 @@ static int64_t ask(struct buffer t, struct buffer w, struct event e)
         return vradomil_interrupt(t.bytes, t.length, w.bytes, w.length, e.process, e.index);
     case SET_PRIORITY:
         return vradomil_set_priority(t.bytes, t.length, w.bytes, w.length, e.process, e.index, e.priority);
-    case OWNER_WAIT:
-        return vradomil_owner_wait(t.bytes, t.length, w.bytes, w.length, e.process, e.index, e.uaddr, e.val, e.flag, e.time,
-                                   e.owner);
-    case WAKE_SINGLE_OWNER:
-        return vradomil_wake_single_owner(t.bytes, t.length, w.bytes, w.length, e.process, e.index, e.uaddr);
-    case OWNER_REQUEUE:
-        return vradomil_owner_requeue(t.bytes, t.length, w.bytes, w.length, e.process, e.index, e.uaddr, e.val3, e.val, e.uaddr2,
-                                      (uint32_t)e.time, e.owner, e.flag);
-    case GET_OWNER:
-        return vradomil_get_owner(t.bytes, t.length, w.bytes, w.length, e.process, e.index, e.uaddr);
     case QUERY:
         return vradomil_query(t.bytes, t.length, e.process);
     default:
@@ -137,17 +126,6 @@ static int64_t ask_report(struct buffer t, struct buffer w, struct event e, stru
     case SET_PRIORITY:
         return vradomil_set_priority_report(t.bytes, t.length, w.bytes, w.length, e.process, e.index, e.priority, r.bytes,
                                             r.length);
-    case OWNER_WAIT:
-        return vradomil_owner_wait_report(t.bytes, t.length, w.bytes, w.length, e.process, e.index, e.uaddr, e.val, e.flag, e.time,
-                                          e.owner, r.bytes, r.length);
-    case WAKE_SINGLE_OWNER:
-        return vradomil_wake_single_owner_report(t.bytes, t.length, w.bytes, w.length, e.process, e.index, e.uaddr, r.bytes,
-                                                 r.length);
-    case OWNER_REQUEUE:
-        return vradomil_owner_requeue_report(t.bytes, t.length, w.bytes, w.length, e.process, e.index, e.uaddr, e.val3, e.val,
-                                             e.uaddr2, (uint32_t)e.time, e.owner, e.flag, r.bytes, r.length);
-    case GET_OWNER:
-        return vradomil_get_owner_report(t.bytes, t.length, w.bytes, w.length, e.process, e.index, e.uaddr, r.bytes, r.length);
     default:
         return vradomil_call_report(t.bytes, t.length, w.bytes, w.length, e.process, e.index, e.op, e.uaddr, e.val, e.flag, e.time,
                                     e.uaddr2, e.val3, r.bytes, r.length);
@@ -164,7 +142,7 @@ static void fail(const char *what)
 static void check_report(struct buffer r, int64_t answer)
 {
     size_t written = r.length < VRADOMIL_REPORT_BYTES ? r.length : VRADOMIL_REPORT_BYTES;
-    if (written != 0 && (r.bytes[0] > VRADOMIL_REASON_OWNER || (r.bytes[0] != 0) != (answer == VRADOMIL_EINVAL)))
+    if (written != 0 && (r.bytes[0] > VRADOMIL_REASON_PRIORITY || (r.bytes[0] != 0) != (answer == VRADOMIL_EINVAL)))
         fail("a report has a wrong reason");
     if (memcmp(r.before + written, r.bytes + written, r.length - written) != 0)
         fail("a byte behind a report was changed");

@@ -45,12 +45,4 @@ void show_refusals(struct host *h)
     answer = vradomil_set_priority_report(tables, sizeof h->tables, h->words, sizeof h->words, 0, 0, 32, (uint8_t *)&report,
                                           sizeof report);
     show("set_priority 32", answer, report);
-    answer = vradomil_owner_wait_report(tables, sizeof h->tables, h->words, sizeof h->words, 0, 1, 8, 0, 0, 0, 8,
-                                        (uint8_t *)&report, sizeof report);
-    show("owner wait at 8, owner 8", answer, report);
-    answer = vradomil_owner_wait_report(tables, sizeof h->tables, h->words, sizeof h->words, 0, 1, 8, 0, 0, 0, 0,
-                                        (uint8_t *)&report, sizeof report);
-    show("owner wait at 8 of thread 1, owner 0", answer, report);
-    answer = host_call(h, 0, 0, (struct futex){.op = VRADOMIL_WAIT, .uaddr = 8}, &report);
-    show("WAIT at 8 of thread 0", answer, report);
 }

@@ -1,5 +1,5 @@
 /*
- * Two mutexes and a condition variable over futex words, as a C library has them: most calls don't enter the kernel at all.
+ * A mutex and a condition variable over futex words, as a C library has them: most calls don't enter the kernel at all.
  *
  * Threads here give up their turn only where they sleep or say so, so a load and a store after it are one step. On a host with
  * several CPUs they would be one atomic instruction.
@@ -13,14 +13,7 @@
 void mutex_lock(struct host *h, uint32_t mutex);
 void mutex_unlock(struct host *h, uint32_t mutex);
 
-/*
- * A mutex whose waiters tell the kernel who holds it, so that the kernel knows for whom they wait. Its word is 0 free, else the
- * index of the holder plus 1, with the top bit where it is perhaps waited for.
- */
-void owned_lock(struct host *h, uint32_t mutex);
-void owned_unlock(struct host *h, uint32_t mutex);
-
-/* A condition's word counts its signals. Both are called with the mutex, an owned one, locked. */
+/* A condition's word counts its signals. Both are called with the mutex locked. */
 void cond_wait(struct host *h, uint32_t cond, uint32_t mutex);
 void cond_broadcast(struct host *h, uint32_t cond, uint32_t mutex);
 

@@ -13,21 +13,17 @@ use crate::tally::Kind;
 /// The most ends that a command has.
 pub const ENDS: usize = 5;
 
-const WAKE_ENDS: &[&str] = &[
-    "cap reached, some left at the word",
-    "cap reached, nobody left at the word",
-    "cap above 0, nobody released from a list with sleepers",
-    "cap not reached, some released",
-    "cap 0 where threads sleep",
-];
-
 /// The ends that a command can come to, each with its place.
 pub fn ends(kind: Kind) -> &'static [&'static str] {
     match kind {
-        "WAKE" | "WAKE_BITSET" => WAKE_ENDS,
-        // One is released at most, if one is there.
-        "single-owner wake" => &WAKE_ENDS[..3],
-        "REQUEUE" | "CMP_REQUEUE" | "owner requeue" => {
+        "WAKE" | "WAKE_BITSET" => &[
+            "cap reached, some left at the word",
+            "cap reached, nobody left at the word",
+            "cap not reached, some released",
+            "cap above 0, nobody released from a list with sleepers",
+            "cap 0 where threads sleep",
+        ],
+        "REQUEUE" | "CMP_REQUEUE" => {
             &["both caps reached", "only the first cap reached", "no cap reached, some released"]
         }
         "WAKE_OP" => &["both caps release at one word", "both caps release, at two words"],
@@ -84,8 +80,8 @@ fn end_of_wake(call: &Call, before: &[u8], taken: Taken) -> Option<usize> {
     match (taken.first == call.val, taken.first) {
         (true, 0) => (asleep > 0).then_some(4),
         (true, first) => Some((first == asleep) as usize),
-        (false, 0) => (before[COUNT] > 0).then_some(2),
-        (false, _) => Some(3),
+        (false, 0) => (before[COUNT] > 0).then_some(3),
+        (false, _) => Some(2),
     }
 }
 

@@ -1,8 +1,6 @@
 //! Events at random: calls that mostly pass the tests, so that threads sleep,
 //! wake, move and time out, and arguments at the edges of every field.
 
-mod owners;
-
 use second::model::{
     Call, Event, State, CMP_REQUEUE, HIGHEST_PRIORITY, REQUEUE, THREADS, THREADS_PER_PROCESS, WAIT,
     WAIT_BITSET, WAKE, WAKE_BITSET, WAKE_OP, WORDS_PER_PROCESS,
@@ -88,23 +86,21 @@ const EDGE_OPS: &[u32] = &[
 ];
 const EDGE_U8: &[u8] = &[0, 1, 7, 8, 9, 63, 64, 127, 128, 255];
 const EDGE_PRIORITIES: &[u8] = &[0, 1, 30, 31, 32, 33, 63, 64, 95, 127, 128, 159, 254, 255];
-/// Caps that -22 refuses.
-const ABOVE_CAPS: &[u32] = &[1 << 31, (1 << 31) + 1, u32::MAX];
 /// Few addresses, so that sleepers meet.
 pub const ADDRESSES: &[u32] = &[0, 0, 4, 4, 8, 12, 2048, 4088, 4092];
 pub const MASKS: &[u32] = &[1, 2, 3, 4, 6, 1 << 31, u32::MAX];
 const COMMANDS: &[u32] = &[WAIT, WAIT_BITSET, WAKE, WAKE_BITSET, REQUEUE, CMP_REQUEUE, WAKE_OP];
-const WAKES: &[u32] = &[WAKE, WAKE, WAKE_BITSET, REQUEUE, CMP_REQUEUE, WAKE_OP, WAKE_OP];
+const WAKES: &[u32] = &[WAKE, WAKE, WAKE_BITSET, REQUEUE, CMP_REQUEUE, WAKE_OP];
 
 /// What a stretch of events leans to.
 #[derive(Clone, Copy)]
 pub struct Mood {
-    /// Of a hundred calls, and of a hundred of the owner family, how many are waits.
+    /// Of a hundred calls, how many are waits.
     waits: u64,
     /// Of a hundred events, how many have an argument at an edge.
     edges: u64,
-    /// Of a hundred events, how many have arguments that -22 refuses, or an owner that
-    /// -3 does, if they are calls, of the owner family, or set a priority.
+    /// Of a hundred events, how many have arguments that -22 refuses, if they are
+    /// calls or set a priority.
     faults: u64,
     /// Of a hundred events, how many are no calls.
     others: u64,
@@ -112,8 +108,6 @@ pub struct Mood {
     all: u64,
     /// Of a hundred events, how many set a priority.
     priorities: u64,
-    /// Of a hundred calls, how many are of the owner family.
-    owners: u64,
     /// How many processes take part.
     processes: u64,
     /// Of a hundred waits, how many have a timeout.
@@ -123,20 +117,8 @@ pub struct Mood {
 const MOODS: &[Mood] = &[
     Mood { waits: 50, edges: 10, faults: 3, others: 20, priorities: 12, ..PLAIN },
     Mood { waits: 60, others: 15, all: 10, priorities: 25, processes: 2, timed: 40, ..PLAIN },
-    // Nobody goes before another but by arrival, as far as this mood goes, and no owner
-    // is named.
-    Mood {
-        waits: 60,
-        others: 15,
-        all: 10,
-        priorities: 0,
-        owners: 0,
-        processes: 3,
-        timed: 30,
-        ..PLAIN
-    },
-    // Hardly a plain call.
-    Mood { waits: 45, others: 15, priorities: 5, owners: 85, processes: 2, timed: 40, ..PLAIN },
+    // Nobody goes before another but by arrival, as far as this mood goes.
+    Mood { waits: 60, others: 15, all: 10, priorities: 0, processes: 3, timed: 30, ..PLAIN },
     // The list fills up, to 64 in the end,
     Mood { waits: 97, edges: 2, faults: 1, others: 5, all: 0, timed: 10, ..PLAIN },
     // or is drained by wakes, or by the clock.
@@ -152,7 +134,6 @@ const PLAIN: Mood = Mood {
     others: 20,
     all: 5,
     priorities: 8,
-    owners: 30,
     processes: 8,
     timed: 50,
 };
@@ -171,8 +152,6 @@ pub fn next(rng: &mut Rng, mood: Mood, state: &State, words: &[u32]) -> Event {
         set_priority(rng, mood, state)
     } else if rng.percent(mood.others) {
         other(rng, mood, state)
-    } else if rng.percent(mood.owners) {
-        owners::next(rng, mood, state, words)
     } else {
         Event::Call(call(rng, mood, state, words))
     };
@@ -260,11 +239,12 @@ fn call(rng: &mut Rng, mood: Mood, state: &State, words: &[u32]) -> Call {
     let (process, index) = caller(rng, mood, state);
     let command =
         if rng.percent(mood.waits) { rng.pick(&[WAIT, WAIT_BITSET]) } else { rng.pick(WAKES) };
+    let uaddr = first_address(rng, state, process);
     let mut call = Call {
         process,
         index,
         op: command | if rng.percent(30) { 128 } else { 0 },
-        uaddr: first_address(rng, state, process),
+        uaddr,
         // What a command doesn't use is junk, to show that nobody looks.
         val: rng.u32(),
         flag: rng.u64() as u8,
@@ -274,8 +254,9 @@ fn call(rng: &mut Rng, mood: Mood, state: &State, words: &[u32]) -> Call {
     };
     // The words of the caller's process.
     let words = &words[WORDS_PER_PROCESS * process as usize..][..WORDS_PER_PROCESS];
+    let word = words[uaddr as usize / 4];
     match command {
-        WAIT | WAIT_BITSET => fit_wait(rng, mood, state, words, &mut call),
+        WAIT | WAIT_BITSET => fit_wait(rng, mood, state.clock, word, &mut call),
         WAKE | WAKE_BITSET => call.val = cap(rng, mood),
         _ => fit_second(rng, mood, state, words, &mut call),
     }
@@ -285,15 +266,13 @@ fn call(rng: &mut Rng, mood: Mood, state: &State, words: &[u32]) -> Call {
     call
 }
 
-fn fit_wait(rng: &mut Rng, mood: Mood, state: &State, words: &[u32], call: &mut Call) {
-    owners::aim_wait(rng, state, call);
-    let word = words[call.uaddr as usize / 4];
+fn fit_wait(rng: &mut Rng, mood: Mood, clock: u64, word: u32, call: &mut Call) {
     call.val = if rng.percent(92) { word } else { small(rng) };
     call.flag = if rng.percent(mood.timed) { rng.pick(&[1, 1, 1, 2, 255]) } else { 0 };
     if call.flag != 0 && !rng.percent(3) {
         let ahead = if rng.percent(6) { 0 } else { 1 + rng.below(30) };
         let relative = call.op & 127 == WAIT;
-        call.timeout = if relative { ahead } else { state.clock.saturating_add(ahead) };
+        call.timeout = if relative { ahead } else { clock.saturating_add(ahead) };
     }
 }
 
@@ -327,11 +306,11 @@ fn fit_second(rng: &mut Rng, mood: Mood, state: &State, words: &[u32], call: &mu
     call.timeout = cap(rng, mood) as u64 + (rng.below(3) << 32);
     match call.op & 127 {
         WAKE_OP => fit_operation(rng, state, words, call),
-        _ => owners::aim_requeue(rng, state, call),
-    }
-    if call.op & 127 == CMP_REQUEUE {
-        let word = words[call.uaddr as usize / 4];
-        call.val3 = if rng.percent(90) { word } else { small(rng) };
+        CMP_REQUEUE => {
+            let word = words[call.uaddr as usize / 4];
+            call.val3 = if rng.percent(90) { word } else { small(rng) };
+        }
+        _ => {}
     }
 }
 
@@ -394,27 +373,27 @@ fn put_edge(rng: &mut Rng, event: &mut Event) {
             _ => *priority = rng.pick(EDGE_PRIORITIES),
         },
         Event::Query { process } => *process = rng.pick(EDGE_U8),
-        _ => owners::put_edge(rng, event),
     }
 }
 
-/// Gives one argument a value that -22 refuses, or an owner that -3 does. Stores and
-/// clock events have theirs among the edges.
+/// Gives one argument a value that -22 refuses. Stores and clock events have
+/// theirs among the edges.
 fn put_fault(rng: &mut Rng, event: &mut Event) {
     match event {
         Event::Call(call) => put_call_fault(rng, call),
         Event::SetPriority { priority, .. } => {
             *priority = 1 + HIGHEST_PRIORITY + rng.below(255 - u64::from(HIGHEST_PRIORITY)) as u8;
         }
-        _ => owners::put_fault(rng, event),
+        _ => {}
     }
 }
 
 /// It is refused only if the command uses the argument.
 fn put_call_fault(rng: &mut Rng, call: &mut Call) {
+    let above = &[1 << 31, (1 << 31) + 1, u32::MAX];
     match rng.below(6) {
-        0 => call.val = rng.pick(ABOVE_CAPS),
-        1 => call.timeout = rng.pick(ABOVE_CAPS) as u64 + (rng.below(3) << 32),
+        0 => call.val = rng.pick(above),
+        1 => call.timeout = rng.pick(above) as u64 + (rng.below(3) << 32),
         2 => call.val3 = 0,
         3 => call.uaddr |= 1 + rng.below(3) as u32,
         4 => call.uaddr2 |= 1 + rng.below(3) as u32,

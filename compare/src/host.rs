@@ -1,7 +1,5 @@
 //! The library's functions, as include/vradomil.h declares them.
 
-mod owners;
-
 use second::model::{Call, Event};
 
 extern "C" {
@@ -122,9 +120,6 @@ pub fn fresh(tables: &mut [u8]) -> i64 {
 
 /// One event by a function that answers a number alone.
 pub fn step(tables: &mut [u8], words: &mut [u8], event: &Event) -> i64 {
-    if let Some(answer) = owners::step(tables, words, event) {
-        return answer as i64;
-    }
     let (t, t_len) = (tables.as_mut_ptr(), tables.len());
     let (w, w_len) = (words.as_mut_ptr(), words.len());
     match *event {
@@ -140,15 +135,11 @@ pub fn step(tables: &mut [u8], words: &mut [u8], event: &Event) -> i64 {
             vradomil_set_priority(t, t_len, w, w_len, process, index, priority) as i64
         },
         Event::Query { process } => unsafe { vradomil_query(t, t_len, process) as i64 },
-        _ => unreachable!("an event of no kind"),
     }
 }
 
 /// One event by a function that also writes a report; a panel query has none.
 pub fn step_report(tables: &mut [u8], words: &mut [u8], event: &Event, report: &mut [u8]) -> i64 {
-    if let Some(answer) = owners::step_report(tables, words, event, report) {
-        return answer as i64;
-    }
     let (t, t_len) = (tables.as_mut_ptr(), tables.len());
     let (w, w_len) = (words.as_mut_ptr(), words.len());
     let (r, r_len) = (report.as_mut_ptr(), report.len());
@@ -167,7 +158,7 @@ pub fn step_report(tables: &mut [u8], words: &mut [u8], event: &Event, report: &
             vradomil_set_priority_report(t, t_len, w, w_len, process, index, priority, r, r_len)
                 as i64
         },
-        _ => step(tables, words, event),
+        Event::Query { .. } => step(tables, words, event),
     }
 }
 

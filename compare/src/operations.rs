@@ -42,20 +42,6 @@ impl Shown {
     }
 }
 
-/// Whether a WAKE_OP with this val3 finds an old word that compares true.
-pub fn compares_true(val3: u32, old: u32) -> bool {
-    // The twelve bits of cmparg, with their sign.
-    let (old, cmparg) = (old as i32, (val3 << 20) as i32 >> 20);
-    match val3 >> 24 & 15 {
-        0 => old == cmparg,
-        1 => old != cmparg,
-        2 => old < cmparg,
-        3 => old <= cmparg,
-        4 => old > cmparg,
-        _ => old >= cmparg,
-    }
-}
-
 /// Whether the lowest twelve bits, with their sign, are below 0.
 fn negative_field(bits: u32) -> bool {
     bits >> 11 & 1 == 1

@@ -23,8 +23,8 @@ const TIE: &str = "takes an earlier one before a later one of equal priority";
 /// What a command can show, each with its place.
 pub fn shows(kind: Kind) -> &'static [&'static str] {
     match kind {
-        "WAKE" | "WAKE_BITSET" | "single-owner wake" => &[OVERTAKES, TIE],
-        "REQUEUE" | "CMP_REQUEUE" | "owner requeue" => {
+        "WAKE" | "WAKE_BITSET" => &[OVERTAKES, TIE],
+        "REQUEUE" | "CMP_REQUEUE" => {
             &[OVERTAKES, TIE, "moves in another order than the list's", "moves two equals"]
         }
         "WAKE_OP" => {
@@ -87,17 +87,6 @@ fn at(call: &Call, address: u32, mask: u32, before: &[u8], after: &[u8]) -> Vec<
         found.push(Sleeper { place, place_after, priority: before[PRIORITY + number], fate });
     }
     found
-}
-
-/// The indexes of those whom a requeue would move, if it were not refused.
-pub fn moved(call: &Call, before: &[u8]) -> Vec<u8> {
-    let own = |entry: &&u8| **entry as usize / THREADS_PER_PROCESS == call.process as usize;
-    let here = |entry: &&u8| u32_at(before, UADDR + 4 * **entry as usize) == call.uaddr;
-    let mut sleepers: Vec<u8> = listed(before).iter().filter(own).filter(here).copied().collect();
-    // Those of equal priority stay in list order.
-    sleepers.sort_by_key(|&entry| std::cmp::Reverse(before[PRIORITY + entry as usize]));
-    let moved = sleepers.iter().skip(call.val as usize).take(call.timeout as u32 as usize);
-    moved.map(|entry| entry % THREADS_PER_PROCESS as u8).collect()
 }
 
 /// The words that a call takes sleepers from, each with those whom it could take.

@@ -5,21 +5,15 @@ use std::fmt::Write;
 
 use second::bytes::u32_at;
 use second::layout::{self, TABLE_BYTES};
-use second::model::{
-    Event, OwnerRequeue, OwnerWait, State, PRIVATE_BIT, WAKE_OP, WORDS, WORDS_PER_PROCESS,
-};
+use second::model::{Event, State, PRIVATE_BIT, WAKE_OP, WORDS, WORDS_PER_PROCESS};
 use second::rng::Rng;
 
 use crate::caps;
 use crate::events;
-use crate::family::Like;
 use crate::host;
 use crate::operations::Shown;
 use crate::order::{self, Shows};
-use crate::owners::shows::Answered;
-use crate::owners::{self, Way};
 use crate::priorities::{self, Fates};
-use crate::reasons;
 use crate::room::Room;
 
 /// The answer's number and its reason, as both sides gave them.
@@ -149,20 +143,26 @@ impl Pair {
 
     /// How the last event, answered with a count, used up its caps.
     pub fn caps_end(&self, event: &Event) -> Option<usize> {
-        let like = Like::of(event)?;
-        caps::end(&like.call, &self.before, &self.bytes)
+        match event {
+            Event::Call(call) => caps::end(call, &self.before, &self.bytes),
+            _ => None,
+        }
     }
 
     /// Whether the last event, not refused, took sleepers in their order.
     pub fn order_kept(&self, event: &Event) -> bool {
-        let like = Like::of(event);
-        like.is_none_or(|like| order::is_kept(&like.call, &self.before, &self.bytes))
+        match event {
+            Event::Call(call) => order::is_kept(call, &self.before, &self.bytes),
+            _ => true,
+        }
     }
 
     /// What the last event, not refused, shows of that order.
     pub fn order_shown(&self, event: &Event) -> Shows {
-        let like = Like::of(event);
-        like.map_or(Shows::default(), |like| order::shown(&like.call, &self.before, &self.bytes))
+        match event {
+            Event::Call(call) => order::shown(call, &self.before, &self.bytes),
+            _ => Shows::default(),
+        }
     }
 
     /// Whether the last event left all the priorities that it had to leave.
@@ -173,32 +173,6 @@ impl Pair {
     /// What the last event, not refused, did to threads that have a priority.
     pub fn fates(&self, event: &Event) -> Fates {
         priorities::fates_of(event, &self.before, &self.bytes)
-    }
-
-    /// Whether the last event left every owner that it had to leave, and told the one
-    /// that it was asked for.
-    pub fn owners_right(&self, event: &Event, number: i64) -> bool {
-        owners::are_right(event, number, self.old_second(), &self.before, &self.bytes)
-            && owners::is_told(event, number, &self.before)
-    }
-
-    /// How the last event would have left a thread asleep on a word that it owns.
-    pub fn way(&self, event: &Event) -> Option<Way> {
-        owners::way(event, &self.before)
-    }
-
-    /// What the last event shows of owners; on sound tables, if it wasn't refused.
-    pub fn owners_shown(&self, event: &Event, given: Given) -> Vec<&'static str> {
-        let way = if given.reason == reasons::OWN_WORD { self.way(event) } else { None };
-        let clock = self.before.first_chunk().map_or(0, |bytes| u64::from_le_bytes(*bytes));
-        let (before, after, number) = (&self.before[..], &self.bytes[..], given.number);
-        let old = self.old_second();
-        Answered { event, number, way, clock, old, before, after }.shown()
-    }
-
-    /// What the word at the last event's second address was.
-    fn old_second(&self) -> u32 {
-        self.named[1].map_or(0, |(_, word)| word)
     }
 
     fn ask(&mut self, event: &Event) -> i64 {
@@ -282,14 +256,7 @@ fn places(event: &Event) -> [Option<usize>; 2] {
         Event::Call(ref call) => {
             [place(call.process, call.uaddr), place(call.process, call.uaddr2)]
         }
-        Event::OwnerRequeue(ref requeue) => {
-            let OwnerRequeue { process, address, target, .. } = *requeue;
-            [place(process, address), place(process, target)]
-        }
-        Event::OwnerWait(OwnerWait { process, address, .. })
-        | Event::Store { process, address, .. }
-        | Event::OwnerWake { process, address, .. }
-        | Event::OwnerQuery { process, address, .. } => [place(process, address), None],
+        Event::Store { process, address, .. } => [place(process, address), None],
         _ => [None, None],
     }
 }

@@ -3,7 +3,7 @@
 //! to threads that have one, so that a run knows what it has tried.
 
 use second::bytes::u32_at;
-use second::layout::{OWNER, PRIORITY, UADDR, WAITING};
+use second::layout::{PRIORITY, UADDR, WAITING};
 use second::model::{Event, State, THREADS, THREADS_PER_PROCESS};
 
 use crate::tally::Kind;
@@ -20,9 +20,9 @@ const RELEASED: &str = "releases one with a priority";
 /// place.
 pub fn fates(kind: Kind) -> &'static [&'static str] {
     match kind {
-        "WAIT" | "WAIT_BITSET" | "owner wait" => &["puts one with a priority to sleep"],
-        "WAKE" | "WAKE_BITSET" | "WAKE_OP" | "single-owner wake" => &[RELEASED],
-        "REQUEUE" | "CMP_REQUEUE" | "owner requeue" => &[RELEASED, "moves one with a priority"],
+        "WAIT" | "WAIT_BITSET" => &["puts one with a priority to sleep"],
+        "WAKE" | "WAKE_BITSET" | "WAKE_OP" => &[RELEASED],
+        "REQUEUE" | "CMP_REQUEUE" => &[RELEASED, "moves one with a priority"],
         "clock" => &["times out one with a priority"],
         "interrupt" => &["interrupts one with a priority"],
         "set priority" => &["of a running thread", "of a sleeper", "from above 0 to 0"],
@@ -48,7 +48,7 @@ pub fn too_high(event: &Event, state: &State) -> Option<TooHigh> {
 }
 
 /// Whether some thread of a process sleeps.
-pub fn asleep(state: &State, process: u8) -> bool {
+fn asleep(state: &State, process: u8) -> bool {
     let threads = state.threads.chunks(THREADS_PER_PROCESS).nth(process as usize);
     threads.is_some_and(|threads| threads.iter().any(|thread| thread.waiting))
 }
@@ -69,14 +69,14 @@ pub fn are_kept(event: &Event, number: i64, before: &[u8], after: &[u8]) -> bool
                 false => was == is,
             })
         }
-        _ => before.get(PRIORITY..OWNER) == after.get(PRIORITY..OWNER),
+        _ => before.get(PRIORITY..) == after.get(PRIORITY..),
     }
 }
 
 /// What an event that wasn't refused did, by the places of its kind's fates.
 pub fn fates_of(event: &Event, before: &[u8], after: &[u8]) -> Fates {
     match *event {
-        Event::Call(_) | Event::OwnerWait(_) | Event::OwnerWake { .. } | Event::OwnerRequeue(_) => {
+        Event::Call(_) => {
             let (slept, ended, moved) = changes(before, after);
             [slept || ended, moved, false]
         }

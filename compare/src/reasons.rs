@@ -1,6 +1,6 @@
 //! Which of the reasons for -22 an event's arguments give, told once more from
-//! requests (i), (vi) and (viii) of document 02: so that a run knows which it has tried,
-//! and that the one reported is the lowest. Reason 9 is told by `owners`.
+//! requests (i) and (vi) of document 02: so that a run knows which it has tried, and
+//! that the one reported is the lowest.
 
 use second::model::Event;
 
@@ -10,22 +10,17 @@ use crate::tally::{kind, Kind};
 pub type Reasons = u16;
 
 /// One more than the highest reason, and how many sets there are.
-const REASONS: u8 = 10;
+const REASONS: u8 = 9;
 pub const SETS: usize = 1 << REASONS;
-
-/// The reason that is no argument's: a thread would be asleep on a word that it owns. It
-/// is tested where no argument is wrong, so it never applies beside another.
-pub const OWN_WORD: u8 = 9;
 
 /// The reasons that events of a kind can be refused for.
 pub fn possible(kind: Kind) -> &'static [u8] {
     match kind {
-        "store" | "single-owner wake" | "owner query" => &[4],
-        "WAIT" | "owner wait" => &[4, OWN_WORD],
+        "WAIT" | "store" => &[4],
         "WAKE" => &[1, 4],
-        "REQUEUE" | "CMP_REQUEUE" | "owner requeue" => &[1, 2, 4, 5, 6, OWN_WORD],
+        "REQUEUE" | "CMP_REQUEUE" => &[1, 2, 4, 5, 6],
         "WAKE_OP" => &[1, 2, 4, 5],
-        "WAIT_BITSET" => &[3, 4, OWN_WORD],
+        "WAIT_BITSET" => &[3, 4],
         "WAKE_BITSET" => &[1, 3, 4],
         "clock" => &[7],
         "set priority" => &[8],
@@ -33,8 +28,8 @@ pub fn possible(kind: Kind) -> &'static [u8] {
     }
 }
 
-/// The reasons among its arguments that apply to an event that was answered -22. For a
-/// clock event the answer says it.
+/// The reasons that apply to an event that was answered -22. For a clock event
+/// the answer says it.
 pub fn applying(event: &Event) -> Reasons {
     let cap_bad = |cap: u32| cap > i32::MAX as u32;
     let holds = |reason: u8| match *event {
@@ -46,22 +41,11 @@ pub fn applying(event: &Event) -> Reasons {
             5 => call.uaddr2 % 4 != 0,
             _ => call.uaddr == call.uaddr2,
         },
-        Event::OwnerRequeue(ref requeue) => match reason {
-            1 => requeue.single == 0 && cap_bad(requeue.wake_cap),
-            2 => cap_bad(requeue.move_cap),
-            4 => requeue.address % 4 != 0,
-            5 => requeue.target % 4 != 0,
-            _ => requeue.address == requeue.target,
-        },
-        Event::OwnerWait(ref wait) => wait.address % 4 != 0,
-        Event::Store { address, .. }
-        | Event::OwnerWake { address, .. }
-        | Event::OwnerQuery { address, .. } => address % 4 != 0,
+        Event::Store { address, .. } => address % 4 != 0,
         Event::SetPriority { priority, .. } => priority > 31,
         _ => true,
     };
-    let arguments = possible(kind(event)).iter().filter(|&&reason| reason != OWN_WORD);
-    let reasons = arguments.filter(|&&reason| holds(reason));
+    let reasons = possible(kind(event)).iter().filter(|&&reason| holds(reason));
     reasons.fold(0, |set, reason| set | 1 << reason)
 }
 

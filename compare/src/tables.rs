@@ -1,9 +1,7 @@
 //! Tables to try single events on: sound ones, ones with one rule broken, one
 //! byte changed, random bytes, and wrong lengths.
 
-use second::generate::tables::{
-    owners, Break, LAST_BREAKS, LIST_BREAKS, PRIORITY_BREAKS, RECORD_BREAKS,
-};
+use second::generate::tables::{Break, LAST_BREAKS, LIST_BREAKS, PRIORITY_BREAKS, RECORD_BREAKS};
 use second::layout::{self, LAST, TABLE_BYTES, TIMED, WAITING};
 use second::model::{State, THREADS};
 use second::rng::Rng;
@@ -29,7 +27,6 @@ pub fn sound(rng: &mut Rng, sleepers: usize) -> State {
         let deadline = deadline_above(rng, state.clock);
         state.join(numbers[place], rng.pick(ADDRESSES), rng.pick(MASKS), deadline);
     }
-    owners::set(rng, &mut state);
     state
 }
 
@@ -62,13 +59,10 @@ pub fn sleepers(rng: &mut Rng) -> usize {
 }
 
 /// How many ways `break_rule` has.
-pub const BREAKS: usize = STATE_BREAKS + FLAG_BREAKS.len() + 1;
-/// Those that break what the bytes stand for, the owners' at the end.
-const STATE_BREAKS: usize = FIRST_OWNERS + owners::BREAKS.len();
-const FIRST_OWNERS: usize =
+pub const BREAKS: usize = STATE_BREAKS + FLAG_BREAKS.len();
+/// Those that break what the bytes stand for.
+const STATE_BREAKS: usize =
     LIST_BREAKS.len() + RECORD_BREAKS.len() + LAST_BREAKS.len() + PRIORITY_BREAKS.len();
-/// Two owners of one word, where two sleep at one.
-const TWO_OWNERS: usize = BREAKS - 1;
 
 /// Flag bytes that stand for nothing: the column and the byte.
 const FLAG_BREAKS: &[(usize, u8)] = &[
@@ -90,16 +84,7 @@ const FLAG_BREAKS: &[(usize, u8)] = &[
 
 fn state_break(which: usize) -> Option<Break> {
     let of_records = RECORD_BREAKS.iter().chain(LAST_BREAKS).chain(PRIORITY_BREAKS);
-    LIST_BREAKS.iter().chain(of_records).chain(owners::BREAKS).nth(which).copied()
-}
-
-/// Which rule to break: one in four speaks of owners, each of these in few ways.
-pub fn which_rule(rng: &mut Rng) -> usize {
-    match rng.below(16) {
-        0 => TWO_OWNERS,
-        1..=3 => FIRST_OWNERS + rng.below(owners::BREAKS.len() as u64) as usize,
-        _ => rng.below(BREAKS as u64) as usize,
-    }
+    LIST_BREAKS.iter().chain(of_records).nth(which).copied()
 }
 
 /// Breaks one rule of sound tables that have a sleeper and a running thread,
@@ -112,10 +97,6 @@ pub fn break_rule(rng: &mut Rng, mut state: State, which: usize) -> Vec<u8> {
     }
     if let Some(breaks) = state_break(which) {
         breaks(&mut state, sleeper, running);
-        return layout::encode(&state).to_vec();
-    }
-    if which == TWO_OWNERS {
-        owners::differ(rng, &mut state);
         return layout::encode(&state).to_vec();
     }
     let mut bytes = layout::encode(&state).to_vec();
@@ -131,16 +112,16 @@ pub fn change_byte(rng: &mut Rng, state: &State) -> Vec<u8> {
     bytes[at] = match rng.below(4) {
         0 => rng.u64() as u8,
         1 => bytes[at].wrapping_add(1),
-        2 => rng.pick(&[0, 1, 7, 8, 31, 32, 63, 64, 128, 255]),
+        2 => rng.pick(&[0, 1, 31, 32, 63, 64, 128, 255]),
         _ => bytes[at] ^ (1 << rng.below(8)),
     };
     bytes
 }
 
-/// Bytes of a wrong length, sound tables as far as they go; 1,360 end where the owners
-/// begin, as the tables did before there were any.
+/// Bytes of a wrong length, sound tables as far as they go; 1,296 end where the
+/// priorities begin.
 pub fn wrong_length(rng: &mut Rng, state: &State) -> Vec<u8> {
-    let length = rng.pick(&[0, 1, 8, 16, 784, 1296, 1359, 1360, 1361, 1423, 1425, 1432, 2848]);
+    let length = rng.pick(&[0, 1, 8, 16, 784, 1288, 1295, 1296, 1297, 1359, 1361, 1368, 2720]);
     let mut bytes = layout::encode(state).to_vec();
     bytes.resize(length, 0);
     bytes

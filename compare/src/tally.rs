@@ -1,23 +1,20 @@
 //! How often each kind of event got each answer and each reason, how often each
 //! operation and comparison of WAKE_OP was seen, how the caps of wakes and requeues
 //! were used up and what was seen of their order, what was done to threads that have
-//! a priority, how often a priority was too high, what was seen of owners and of tables
-//! that break their rules, how often a running thread called though the list says 64 or
-//! more, and which of these must have come up for a run to count.
+//! a priority, how often a priority was too high, how often a running thread called
+//! though the list says 64 or more, and which of these must have come up for a run to
+//! count.
 
 use std::fmt::Write;
 
 use second::layout::ASLEEP;
-use second::model::{Event, State, NO_OWNER, PRIVATE_BIT, THREADS, THREADS_PER_PROCESS};
+use second::model::{Event, State, PRIVATE_BIT, THREADS, THREADS_PER_PROCESS};
 
 use crate::caps::{self, ENDS};
-use crate::family;
 use crate::operations::{self, Shown, COMPARISONS, OPERATIONS, WAYS};
 use crate::order::{self, Shows, SHOWS};
-use crate::owners::shows as owner_shows;
-use crate::owners::{Fault, FAULTS};
 use crate::priorities::{self, Fates, TooHigh, FATES, RECORDS};
-use crate::reasons::{self, Reasons, OWN_WORD, SETS};
+use crate::reasons::{self, Reasons, SETS};
 
 /// A kind of event: a command, or one of the others.
 pub type Kind = &'static str;
@@ -36,33 +33,27 @@ const KINDS: &[Kind] = &[
     "clock",
     "interrupt",
     "set priority",
-    "owner wait",
-    "single-owner wake",
-    "owner requeue",
-    "owner query",
     "query",
     FRESH,
 ];
-/// An answer, or a group of them: counts above 0 are all SOME, owners above 0 and panel
-/// answers with sleepers too.
+/// An answer, or a group of them: counts above 0 are all SOME, panel answers
+/// with sleepers too.
 const SOME: i64 = 1;
 const NOBODY: i64 = 8 << 16;
 const SLEPT: i64 = ASLEEP as i64;
-const UNOWNED: i64 = NO_OWNER as i64;
 
 /// What each kind must have been answered, besides -6 and -9.
 fn due(kind: Kind) -> &'static [i64] {
     match kind {
-        "WAIT" | "WAIT_BITSET" | "owner wait" => &[-3, -16, -22, -14, -11, -110, SLEPT],
-        "WAKE" | "WAKE_BITSET" | "REQUEUE" | "single-owner wake" => &[-3, -16, -22, -14, 0, SOME],
-        "CMP_REQUEUE" | "owner requeue" => &[-3, -16, -22, -14, -11, 0, SOME],
+        "WAIT" | "WAIT_BITSET" => &[-3, -16, -22, -14, -11, -110, SLEPT],
+        "WAKE" | "WAKE_BITSET" | "REQUEUE" => &[-3, -16, -22, -14, 0, SOME],
+        "CMP_REQUEUE" => &[-3, -16, -22, -14, -11, 0, SOME],
         "WAKE_OP" => &[-3, -16, -22, -14, -38, 0, SOME],
         "unknown command" => &[-3, -16, -38],
         "store" => &[-3, -22, -14, 0],
         "clock" => &[-22, 0, SOME],
         "interrupt" => &[-3, 0, SOME],
         "set priority" => &[-3, -22, 0],
-        "owner query" => &[-3, -16, -22, -14, 0, SOME, UNOWNED],
         "query" => &[NOBODY, SOME],
         _ => &[0, -9],
     }
@@ -82,11 +73,7 @@ fn place(event: &Event) -> usize {
         Event::Clock { .. } => 9,
         Event::Interrupt { .. } => 10,
         Event::SetPriority { .. } => 11,
-        Event::OwnerWait(_) => 12,
-        Event::OwnerWake { .. } => 13,
-        Event::OwnerRequeue(_) => 14,
-        Event::OwnerQuery { .. } => 15,
-        Event::Query { .. } => 16,
+        Event::Query { .. } => 12,
     }
 }
 
@@ -118,12 +105,11 @@ impl Form {
 }
 
 /// All answers, counts above 0 as one, each with its place.
-const ANSWERS: &[i64] =
-    &[-110, -38, -22, -16, -14, -11, -9, -6, -3, 0, SOME, SLEPT, NOBODY, UNOWNED];
+const ANSWERS: &[i64] = &[-110, -38, -22, -16, -14, -11, -9, -6, -3, 0, SOME, SLEPT, NOBODY];
 
 fn place_of(number: i64) -> Option<usize> {
     let group = match number {
-        SLEPT | NOBODY | UNOWNED | 0 => number,
+        SLEPT | NOBODY | 0 => number,
         number if number > 0 => SOME,
         number => number,
     };
@@ -140,12 +126,12 @@ fn answer_place(number: i64) -> usize {
     place_of(number).expect("an answer that some event has")
 }
 
-/// Whether the event is a call, or of the owner family, by a thread that runs though the list says 64 or
+/// Whether the event is a call by a thread that runs though the list says 64 or
 /// more: there only the test of the tables stands before one for -12.
 fn crowded(event: &Event, state: Option<&State>) -> bool {
-    match (family::caller(event), state) {
-        (Some((process, index)), Some(state)) => {
-            let (process, index) = (process as usize, index as usize);
+    match (event, state) {
+        (Event::Call(call), Some(state)) => {
+            let (process, index) = (call.process as usize, call.index as usize);
             let thread = THREADS_PER_PROCESS * process + index;
             index < THREADS_PER_PROCESS
                 && thread < THREADS
@@ -174,10 +160,6 @@ pub struct Tally {
     fated: [[u64; FATES]; KINDS.len()],
     /// How often a kind was refused for a priority too high, in which record.
     high: [[u64; RECORDS.len()]; KINDS.len()],
-    /// How often a kind showed so much of owners, and was refused for owners that
-    /// break a rule.
-    owned: [[u64; owner_shows::SHOWS]; KINDS.len()],
-    misowned: [[u64; FAULTS.len()]; KINDS.len()],
     /// How often a running thread called though the list said 64 or more.
     crowded: [u64; KINDS.len()],
     pub sound: u64,
@@ -199,8 +181,6 @@ impl Tally {
             ordered: [[0; SHOWS]; KINDS.len()],
             fated: [[0; FATES]; KINDS.len()],
             high: [[0; RECORDS.len()]; KINDS.len()],
-            owned: [[0; owner_shows::SHOWS]; KINDS.len()],
-            misowned: [[0; FAULTS.len()]; KINDS.len()],
             crowded: [0; KINDS.len()],
             sound: 0,
             broken: 0,
@@ -255,21 +235,6 @@ impl Tally {
         }
     }
 
-    pub fn owners(&mut self, event: &Event, seen: Vec<&'static str>) {
-        let names = owner_shows::shows(kind(event));
-        for name in seen {
-            let at = names.iter().position(|&other| other == name);
-            self.owned[place(event)][at.expect("a name that its kind has")] += 1;
-        }
-    }
-
-    /// An event's answer, and the rule of owners that alone was broken.
-    pub fn owner_fault(&mut self, event: &Event, number: i64, fault: Option<Fault>) {
-        if let (Some(fault), -9 | NOBODY) = (fault, number) {
-            self.misowned[place(event)][fault] += 1;
-        }
-    }
-
     pub fn fresh(&mut self, number: i64) {
         self.counts[Form::Number as usize][KINDS.len() - 1][answer_place(number)] += 1;
     }
@@ -304,7 +269,7 @@ impl Tally {
                 if counts[1 << reason] == 0 {
                     missing.push(format!("{kind} refused for reason {reason} alone"));
                 }
-                for &other in possible[at + 1..].iter().filter(|&&other| other != OWN_WORD) {
+                for &other in &possible[at + 1..] {
                     let both = 1 << reason | 1 << other;
                     if (0..SETS).all(|set| set & both != both || counts[set] == 0) {
                         missing.push(format!("{kind} with reasons {reason} and {other}"));
@@ -357,20 +322,6 @@ impl Tally {
         }
     }
 
-    /// How often each kind showed what it can of owners.
-    fn all_owned(&self) -> impl Iterator<Item = (String, u64)> + '_ {
-        by_kind(&self.owned, owner_shows::shows)
-    }
-
-    /// The broken rules of owners that should have been refused and weren't.
-    fn missing_misowned(&self, missing: &mut Vec<String>) {
-        for (kind, counts) in KINDS.iter().zip(&self.misowned).filter(|(kind, _)| **kind != FRESH) {
-            for (fault, _) in FAULTS.iter().zip(counts).filter(|(_, &count)| count == 0) {
-                missing.push(format!("{kind} on tables with {fault}"));
-            }
-        }
-    }
-
     /// What should have come up and didn't.
     pub fn missing(&self, breaks: usize) -> Vec<String> {
         let mut missing = Vec::new();
@@ -378,9 +329,7 @@ impl Tally {
         self.missing_reasons(&mut missing);
         self.missing_operations(&mut missing);
         self.missing_too_high(&mut missing);
-        self.missing_misowned(&mut missing);
         let counted = self.all_caps().chain(self.all_shows()).chain(self.all_fates());
-        let counted = counted.chain(self.all_owned());
         missing.extend(counted.filter(|&(_, count)| count == 0).map(|(name, _)| name));
         let unseen = |&(kind, n): &(&Kind, u64)| n == 0 && due(kind).contains(&-16);
         for (kind, _) in KINDS.iter().zip(self.crowded).filter(unseen) {
@@ -396,8 +345,8 @@ impl Tally {
     }
 
     /// One line: events by kind, answers, forms, reasons, comparisons, ends of caps,
-    /// orders, fates of threads with a priority, priorities too high and owners seen,
-    /// calls on a list that says 64 or more, tables.
+    /// orders, fates of threads with a priority and priorities too high seen, calls on
+    /// a list that says 64 or more, tables.
     pub fn summary(&self) -> String {
         let kinds = KINDS.iter().enumerate().map(|(at, kind)| {
             let counts = self.counts.iter().flat_map(|counts| counts[at]);
@@ -411,7 +360,7 @@ impl Tally {
             let sum: u64 = counts.iter().flatten().sum();
             format!("{form} {sum}")
         });
-        let seen = (1..10).map(|reason| format!("{reason}: {}", self.refused_for(reason)));
+        let seen = (1..9).map(|reason| format!("{reason}: {}", self.refused_for(reason)));
         let mut text = format!("{} events", self.events());
         let _ = write!(text, " ({}), answers ({})", listed(kinds), listed(answers));
         let _ = write!(text, ", asked ({}), reasons seen ({})", listed(forms), listed(seen));
@@ -422,9 +371,6 @@ impl Tally {
         let high: u64 = self.high.iter().flatten().sum();
         let fates = counted(self.all_fates());
         let _ = write!(text, ", priorities seen ({fates}), too high {high}");
-        let misowned: u64 = self.misowned.iter().flatten().sum();
-        let owned = counted(self.all_owned());
-        let _ = write!(text, ", owners seen ({owned}), broken {misowned}");
         let crowded: u64 = self.crowded.iter().sum();
         let _ =
             write!(text, ", called by a running thread on a list that says 64 or more {crowded}");
@@ -469,7 +415,6 @@ fn name(answer: i64) -> String {
         SLEPT => "asleep".into(),
         SOME => "above 0".into(),
         NOBODY => "0 0 8".into(),
-        UNOWNED => "no owner".into(),
         number => number.to_string(),
     }
 }

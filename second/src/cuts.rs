@@ -4,10 +4,8 @@
 use std::io::{self, BufRead, ErrorKind, Read, Write};
 
 use crate::bytes::u32_at;
-use crate::log::{
-    CALL, CLOCK, INTERRUPT, OWNER_QUERY, OWNER_REQUEUE, OWNER_WAIT, OWNER_WAKE, SET_PRIORITY, STORE,
-};
-use crate::model::{Call, Event, OwnerRequeue, OwnerWait};
+use crate::log::{CALL, CLOCK, INTERRUPT, SET_PRIORITY, STORE};
+use crate::model::{Call, Event};
 use crate::pieces::{Ended, Reader, HELD};
 
 /// The longest log that a script can bring.
@@ -119,19 +117,6 @@ impl Seen {
                 let kind = SET_PRIORITY.into();
                 self.add_numbers([kind, process.into(), index.into(), priority.into()]);
             }
-            Event::OwnerWait(ref wait) => self.add_owner_wait(wait),
-            Event::OwnerWake { process, index, address } => {
-                self.add_numbers([OWNER_WAKE.into(), process.into(), index.into(), address.into()]);
-            }
-            Event::OwnerRequeue(ref requeue) => self.add_owner_requeue(requeue),
-            Event::OwnerQuery { process, index, address } => {
-                self.add_numbers([
-                    OWNER_QUERY.into(),
-                    process.into(),
-                    index.into(),
-                    address.into(),
-                ]);
-            }
             Event::Query { .. } => {} // no record is a query
         }
     }
@@ -148,34 +133,6 @@ impl Seen {
             call.timeout,
             call.uaddr2.into(),
             call.val3.into(),
-        ]);
-    }
-
-    fn add_owner_wait(&mut self, wait: &OwnerWait) {
-        self.add_numbers([
-            OWNER_WAIT.into(),
-            wait.process.into(),
-            wait.index.into(),
-            wait.address.into(),
-            wait.value.into(),
-            wait.flag.into(),
-            wait.deadline,
-            wait.owner.into(),
-        ]);
-    }
-
-    fn add_owner_requeue(&mut self, requeue: &OwnerRequeue) {
-        self.add_numbers([
-            OWNER_REQUEUE.into(),
-            requeue.process.into(),
-            requeue.index.into(),
-            requeue.address.into(),
-            requeue.wake_cap.into(),
-            requeue.value.into(),
-            requeue.target.into(),
-            requeue.move_cap.into(),
-            requeue.owner.into(),
-            requeue.single.into(),
         ]);
     }
 

@@ -6,6 +6,5 @@ pub mod cuts;
 pub mod edges;
 pub mod events;
 pub mod logs;
-pub mod owners;
 pub mod random;
 pub mod tables;

@@ -1,17 +1,15 @@
 //! Tables and words as bytes, as a host kernel written in C hands them over.
 //!
-//! Tables are 1,424 bytes in columns, little-endian: clock at 0, count at 8,
+//! Tables are 1,360 bytes in columns, little-endian: clock at 0, count at 8,
 //! list at 16, waiting at 80, timed at 144, last answer at 208, uaddr at 272,
-//! bitset at 528, deadline at 784, priority at 1296, owner at 1360. Words are 32,768
-//! bytes.
+//! bitset at 528, deadline at 784, priority at 1296. Words are 32,768 bytes.
 
 use crate::bytes::{put_u32, put_u64, u32_at, u64_at};
 use crate::model::{
-    self, Answer, Call, Event, OwnerRequeue, OwnerWait, Report, State, Thread, EBADF, ENXIO,
-    INTERRUPTED, THREADS, WORDS,
+    self, Answer, Call, Event, Report, State, Thread, EBADF, ENXIO, INTERRUPTED, THREADS, WORDS,
 };
 
-pub const TABLE_BYTES: usize = 1424;
+pub const TABLE_BYTES: usize = 1360;
 pub const WORD_BYTES: usize = 4 * WORDS;
 /// "Asleep" as a number.
 pub const ASLEEP: i32 = 2147483647;
@@ -25,11 +23,10 @@ pub const UADDR: usize = 272;
 pub const BITSET: usize = 528;
 pub const DEADLINE: usize = 784;
 pub const PRIORITY: usize = 1296;
-pub const OWNER: usize = 1360;
 
 /// The tables that the bytes stand for. None for a wrong length or a byte that
-/// stands for nothing; the table rules are not tested here, so any priority and any
-/// owner can be held.
+/// stands for nothing; the table rules are not tested here, so any priority can
+/// be held.
 pub fn decode(bytes: &[u8]) -> Option<State> {
     if bytes.len() != TABLE_BYTES {
         return None;
@@ -57,7 +54,6 @@ fn decode_thread(bytes: &[u8], number: usize) -> Option<Thread> {
         bitset: u32_at(bytes, BITSET + 4 * number),
         deadline: u64_at(bytes, DEADLINE + 8 * number),
         priority: bytes[PRIORITY + number],
-        owner: bytes[OWNER + number],
     })
 }
 
@@ -89,7 +85,6 @@ pub fn encode_into(state: &State, bytes: &mut [u8; TABLE_BYTES]) {
         put_u32(bytes, BITSET + 4 * number, thread.bitset);
         put_u64(bytes, DEADLINE + 8 * number, thread.deadline);
         bytes[PRIORITY + number] = thread.priority;
-        bytes[OWNER + number] = thread.owner;
     }
 }
 
@@ -164,55 +159,6 @@ pub fn set_priority(
     priority: u8,
 ) -> i32 {
     apply(tables, words, &Event::SetPriority { process, index, priority })
-}
-
-#[allow(clippy::too_many_arguments)] // as a host hands them over
-pub fn owner_wait(
-    tables: &mut [u8],
-    words: &mut [u8],
-    process: u8,
-    index: u8,
-    address: u32,
-    value: u32,
-    flag: u8,
-    deadline: u64,
-    owner: u8,
-) -> i32 {
-    let wait = OwnerWait { process, index, address, value, flag, deadline, owner };
-    apply(tables, words, &Event::OwnerWait(wait))
-}
-
-pub fn wake_single_owner(
-    tables: &mut [u8],
-    words: &mut [u8],
-    process: u8,
-    index: u8,
-    address: u32,
-) -> i32 {
-    apply(tables, words, &Event::OwnerWake { process, index, address })
-}
-
-#[allow(clippy::too_many_arguments)] // as a host hands them over
-pub fn owner_requeue(
-    tables: &mut [u8],
-    words: &mut [u8],
-    process: u8,
-    index: u8,
-    address: u32,
-    wake_cap: u32,
-    value: u32,
-    target: u32,
-    move_cap: u32,
-    owner: u8,
-    single: u8,
-) -> i32 {
-    let requeue =
-        OwnerRequeue { process, index, address, wake_cap, value, target, move_cap, owner, single };
-    apply(tables, words, &Event::OwnerRequeue(requeue))
-}
-
-pub fn get_owner(tables: &mut [u8], words: &mut [u8], process: u8, index: u8, address: u32) -> i32 {
-    apply(tables, words, &Event::OwnerQuery { process, index, address })
 }
 
 /// The three numbers of a panel query.

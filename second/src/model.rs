@@ -1,19 +1,15 @@
-//! The futex kernel by the rules of document 01 and requests (i), (ii) and (vi) to
-//! (viii) of document 02: the events, what they report and `step`, which applies one
+//! The futex kernel by the rules of document 01 and requests (i), (ii), (vi) and
+//! (vii) of document 02: the events, what they report and `step`, which applies one
 //! event to the tables and the lent words.
 
 mod calls;
 mod order;
-mod owners;
 mod tables;
 
 use std::fmt;
 
-use calls::Request;
 use order::Sleepers;
-pub use tables::{
-    State, Thread, INTERRUPTED, NO_ENTRY, NO_OWNER, NO_SLEEP_ENDED, TIMED_OUT, WOKEN,
-};
+pub use tables::{State, Thread, INTERRUPTED, NO_ENTRY, NO_SLEEP_ENDED, TIMED_OUT, WOKEN};
 
 /// Eight processes of eight threads each.
 pub const PROCESSES: usize = 8;
@@ -48,7 +44,6 @@ pub const UADDR2_NOT_ALIGNED: u8 = 5;
 pub const SAME_ADDRESS: u8 = 6;
 pub const CLOCK_WENT_BACK: u8 = 7;
 pub const PRIORITY_HIGH: u8 = 8;
-pub const OWNER_ASLEEP: u8 = 9; // a thread would own the word at which it sleeps
 
 /// The command numbers.
 pub const WAIT: u32 = 0;
@@ -77,34 +72,6 @@ pub struct Call {
     pub val3: u32,
 }
 
-/// A wait that says who owns the word from now on: an index, or 255 for nobody.
-#[derive(Clone, Copy, Debug, Default, PartialEq, Eq)]
-pub struct OwnerWait {
-    pub process: u8,
-    pub index: u8,
-    pub address: u32,
-    pub value: u32,
-    /// "Deadline given": 0 is no, anything above counts as 1.
-    pub flag: u8,
-    pub deadline: u64,
-    pub owner: u8,
-}
-
-/// A requeue that says who owns the target from now on.
-#[derive(Clone, Copy, Debug, Default, PartialEq, Eq)]
-pub struct OwnerRequeue {
-    pub process: u8,
-    pub index: u8,
-    pub address: u32,
-    pub wake_cap: u32,
-    pub value: u32,
-    pub target: u32,
-    pub move_cap: u32,
-    pub owner: u8,
-    /// 0, or anything above for one release, whose thread owns the first word.
-    pub single: u8,
-}
-
 /// All that can happen to the kernel.
 #[derive(Clone, Copy, Debug, PartialEq, Eq)]
 pub enum Event {
@@ -113,10 +80,6 @@ pub enum Event {
     Clock { time: u64 },
     Interrupt { process: u8, index: u8 },
     SetPriority { process: u8, index: u8, priority: u8 },
-    OwnerWait(OwnerWait),
-    OwnerWake { process: u8, index: u8, address: u32 },
-    OwnerRequeue(OwnerRequeue),
-    OwnerQuery { process: u8, index: u8, address: u32 },
     Query { process: u8 },
 }
 
@@ -204,20 +167,12 @@ pub fn step(state: &mut State, words: &mut [u32], event: &Event) -> Report {
 /// has passed.
 pub fn step_sound(state: &mut State, words: &mut [u32], event: &Event) -> Report {
     let result = match *event {
-        Event::Call(call) => calls::answer(state, words, &Request::plain(call)),
+        Event::Call(ref call) => calls::call(state, words, call),
         Event::Store { process, address, value } => store(words, process, address, value),
         Event::Clock { time } => clock(state, time),
         Event::Interrupt { process, index } => interrupt(state, process, index),
         Event::SetPriority { process, index, priority } => {
             set_priority(state, process, index, priority)
-        }
-        Event::OwnerWait(ref wait) => owners::wait(state, words, wait),
-        Event::OwnerWake { process, index, address } => {
-            owners::wake(state, words, (process, index), address)
-        }
-        Event::OwnerRequeue(ref requeue) => owners::requeue(state, words, requeue),
-        Event::OwnerQuery { process, index, address } => {
-            owners::query(state, words, (process, index), address)
         }
         Event::Query { process } => Ok(query(state, process)),
     };

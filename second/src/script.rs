@@ -1,4 +1,4 @@
-//! A binary test script and what it prints. Records 1 to 9 are those of the
+//! A binary test script and what it prints. Records 1 to 5 are those of the
 //! log (here any flag byte is let through); the others set up and show.
 
 use std::io::{self, Write};
@@ -28,7 +28,6 @@ pub const TIMED: u8 = 6;
 pub const DEADLINE: u8 = 7;
 pub const LAST: u8 = 8;
 pub const PRIORITY: u8 = 9;
-pub const OWNER: u8 = 10;
 
 #[derive(Clone, Copy, Debug, PartialEq, Eq)]
 pub enum Record {
@@ -68,7 +67,7 @@ pub fn read(bytes: &[u8], place: usize) -> Option<(Record, usize)> {
     };
     let good = match record {
         Record::Lend(n) => n as usize <= MEMORY,
-        Record::Poke { field, .. } => field <= OWNER,
+        Record::Poke { field, .. } => field <= PRIORITY,
         _ => true,
     };
     good.then_some((record, place + 1 + length))
@@ -162,8 +161,7 @@ fn poke(state: &mut State, field: u8, index: u8, value: u64) {
         TIMED => thread.timed = value % 2 == 1,
         DEADLINE => thread.deadline = value,
         LAST => thread.last = (value % 4) as u8,
-        PRIORITY => thread.priority = value as u8,
-        _ => thread.owner = value as u8,
+        _ => thread.priority = value as u8,
     }
 }
 
@@ -182,8 +180,8 @@ fn dump(state: &State, out: &mut impl Write) -> io::Result<()> {
             let (waiting, timed) = (t.waiting as u8, t.timed as u8);
             writeln!(
                 out,
-                "thread {number} {waiting} {} {} {timed} {} {} {} {}",
-                t.uaddr, t.bitset, t.deadline, t.last, t.priority, t.owner
+                "thread {number} {waiting} {} {} {timed} {} {} {}",
+                t.uaddr, t.bitset, t.deadline, t.last, t.priority
             )?;
         }
     }

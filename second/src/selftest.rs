@@ -1,7 +1,7 @@
 //! Checks of this program by itself: the cases of document 01, its sentences
 //! one by one, the reasons, the signed WAKE_OP, the refusal that never comes, the
-//! log in pieces, the priorities, the order of taking and the owners of document 02,
-//! round trips, and random runs against the rules said once more in another way.
+//! log in pieces, the priorities and the order of taking of document 02, round
+//! trips, and random runs against the rules said once more in another way.
 
 mod calls;
 mod cuts;
@@ -13,7 +13,6 @@ mod never;
 mod operations;
 mod order;
 mod others;
-mod owners;
 mod pairs;
 mod pieces;
 mod priorities;
@@ -136,7 +135,6 @@ pub fn run() -> Checks {
     priorities::run(&mut checks);
     order::run(&mut checks);
     pairs::run(&mut checks);
-    owners::run(&mut checks);
     checks
 }
 

@@ -1,8 +1,7 @@
 //! Short ways to write events, for the checks and the edge script.
 
 use crate::model::{
-    Call, Event, OwnerRequeue, OwnerWait, CMP_REQUEUE, REQUEUE, WAIT, WAIT_BITSET, WAKE,
-    WAKE_BITSET, WAKE_OP,
+    Call, Event, CMP_REQUEUE, REQUEUE, WAIT, WAIT_BITSET, WAKE, WAKE_BITSET, WAKE_OP,
 };
 
 /// The caller: process and index.
@@ -75,52 +74,6 @@ pub fn interrupt(who: Who) -> Event {
 
 pub fn set_priority(who: Who, priority: u8) -> Event {
     Event::SetPriority { process: who.0, index: who.1, priority }
-}
-
-/// An owner wait without a deadline.
-pub fn owner_wait(who: Who, address: u32, value: u32, owner: u8) -> Event {
-    let (process, index) = who;
-    Event::OwnerWait(OwnerWait { process, index, address, value, owner, ..OwnerWait::default() })
-}
-
-/// An owner wait with its absolute deadline.
-pub fn owner_wait_until(who: Who, address: u32, value: u32, owner: u8, deadline: u64) -> Event {
-    let (process, index) = who;
-    let flag = 1;
-    Event::OwnerWait(OwnerWait { process, index, address, value, flag, deadline, owner })
-}
-
-pub fn owner_wake(who: Who, address: u32) -> Event {
-    Event::OwnerWake { process: who.0, index: who.1, address }
-}
-
-/// An owner requeue of sleepers at a word that must be 0, with both caps.
-pub fn owner_requeue(who: Who, from: u32, to: u32, caps: (u32, u32), owner: u8) -> Event {
-    Event::OwnerRequeue(requeue_of(who, from, to, caps, owner))
-}
-
-/// The same with the single flag; the wake cap is one that nobody may look at.
-pub fn single_requeue(who: Who, from: u32, to: u32, move_cap: u32, owner: u8) -> Event {
-    let caps = (u32::MAX, move_cap);
-    Event::OwnerRequeue(OwnerRequeue { single: 1, ..requeue_of(who, from, to, caps, owner) })
-}
-
-fn requeue_of(who: Who, from: u32, to: u32, caps: (u32, u32), owner: u8) -> OwnerRequeue {
-    OwnerRequeue {
-        process: who.0,
-        index: who.1,
-        address: from,
-        wake_cap: caps.0,
-        value: 0,
-        target: to,
-        move_cap: caps.1,
-        owner,
-        single: 0,
-    }
-}
-
-pub fn owner_query(who: Who, address: u32) -> Event {
-    Event::OwnerQuery { process: who.0, index: who.1, address }
 }
 
 pub fn query(process: u8) -> Event {

@@ -1,11 +1,9 @@
 pub mod Writing
 pub mod Standing
-pub mod Owning
 pub mod Changing
 pub mod Shifting
 pub mod Leaving
 pub mod Due
 pub mod Sifting
 pub mod Faithful
-pub mod Fitted
 pub mod OneByOne

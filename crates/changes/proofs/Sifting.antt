@@ -27,7 +27,7 @@ use Rattle.tables.proofs.Sound.{Sound, tables_sound, listed_below, arrivals_fit,
 use Rattle.tables.proofs.Stored.{ends, end_nobody}
 use Rattle.layout.specs.Layout.{time_bytes, count_at, list_at, waiting_at, tables_size, tables_bytes}
 use Rattle.changes.specs.Change.{Whole, on_list, Writes, Sifted}
-use Rattle.changes.proofs.Standing.{whole, list_in_lem, behind_list}
+use Rattle.changes.proofs.Standing.{whole, list_in, behind_list}
 use Rattle.changes.proofs.Changing.{whole_list}
 use Rattle.changes.proofs.Writing.{part_put, count_put}
 
@@ -145,7 +145,7 @@ module _ (f : ℕ → Bool) (s : State) (ok : tables_ok s ≡ true) where
       pub sifting_read : get_or b (list_at + i) 0 ≡ get_or s.list i 0
       sifting_read =
           sym (get_or-take threads (drop list_at b) i 0 inside ∙ get_or-drop list_at b i 0)
-          ∙ ap (λ l. get_or l i 0) (list_in_lem (on_list (λ l. left f s i) s) left_whole b g.bytes)
+          ∙ ap (λ l. get_or l i 0) (list_in (on_list (λ l. left f s i) s) left_whole b g.bytes)
           ∙ ap (λ l. get_or (pad_to i no_entry (kept f s i) ++ l) i 0) (drop_next s.list i 0 (omega (arith, inside, (whole s ok).entries)))
           ∙ get_or_at (pad_to i no_entry (kept f s i)) (get_or s.list i 0) (drop (i + 1) s.list) 0 i (length_padded i no_entry (kept f s i) (omega (arith, g.fewer, sifting_few.1)))
 

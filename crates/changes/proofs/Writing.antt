@@ -15,9 +15,9 @@ use Rattle.tables.specs.declared.State.{State}
 use Rattle.tables.specs.declared.Thread.{Thread}
 use Rattle.tables.specs.declared.LastAnswer.{LastAnswer}
 use Rattle.tables.specs.Sizes.{threads, word_bytes}
-use Rattle.tables.specs.Tables.{fresh_thread, thread_of, with_sleep, with_last, moved_to, with_priority, with_owner, with_threads, with_clock, set_priority}
+use Rattle.tables.specs.Tables.{fresh_thread, thread_of, with_sleep, with_last, moved_to, with_priority, with_threads, with_clock, set_priority}
 use Rattle.tables.proofs.Stored.{sets_priority}
-use Rattle.layout.specs.Layout.{time_bytes, column, Field, thread_fields, columns, tables_bytes, last_byte, clock_at, count_at, list_at, waiting_at, timed_at, last_at, uaddr_at, bitset_at, deadline_at, priority_at, owner_at}
+use Rattle.layout.specs.Layout.{time_bytes, column, Field, thread_fields, columns, tables_bytes, last_byte, clock_at, count_at, list_at, waiting_at, timed_at, last_at, uaddr_at, bitset_at, deadline_at, priority_at}
 use Rattle.changes.specs.Change.{Whole, at_thread, on_list}
 use Rattle.layout.proofs.Columns.{length_column, column_set, column_same, before, put_column}
 use Rattle.layout.proofs.Exact.{sizes}
@@ -144,20 +144,20 @@ module _ (s : State) (w : Whole s) where
       ≡ tables_bytes (at_thread i (with_sleep waiting a m timed due) s)
   sleep_put i low waiting a m timed due b is =
       let one : 1 * i ≡ i = omega arith in
-      rw one at (put_record i low (with_sleep waiting a m timed due (thread_of s i)) (true ∷ true ∷ false ∷ true ∷ true ∷ true ∷ []) b is (refl, (refl, (refl, tt))))
+      rw one at (put_record i low (with_sleep waiting a m timed due (thread_of s i)) (true ∷ true ∷ false ∷ true ∷ true ∷ true ∷ []) b is (refl, (refl, tt)))
 
   -- the last answer of a thread
   pub last_put : (i : ℕ) → i < threads → (a : LastAnswer) (b : List ℕ) → b ≡ tables_bytes s
       → sets b (last_at + i) (bytes 1 (last_byte a)) ≡ tables_bytes (at_thread i (with_last a) s)
   last_put i low a b is =
       let one : 1 * i ≡ i = omega arith in
-      rw one at (put_record i low (with_last a (thread_of s i)) (false ∷ false ∷ true ∷ []) b is (refl, (refl, (refl, (refl, (refl, (refl, (refl, tt))))))))
+      rw one at (put_record i low (with_last a (thread_of s i)) (false ∷ false ∷ true ∷ []) b is (refl, (refl, (refl, (refl, (refl, (refl, tt)))))))
 
   -- the address of a thread
   pub address_put : (i : ℕ) → i < threads → (a : ℕ) (b : List ℕ) → b ≡ tables_bytes s
       → sets b (uaddr_at + word_bytes * i) (bytes word_bytes a) ≡ tables_bytes (at_thread i (moved_to a) s)
   address_put i low a b is =
-      put_record i low (moved_to a (thread_of s i)) (false ∷ false ∷ false ∷ true ∷ []) b is (refl, (refl, (refl, (refl, (refl, (refl, (refl, tt)))))))
+      put_record i low (moved_to a (thread_of s i)) (false ∷ false ∷ false ∷ true ∷ []) b is (refl, (refl, (refl, (refl, (refl, (refl, tt))))))
 
   -- the priority of a thread
   pub priority_put : (i : ℕ) → i < threads → (n : ℕ) (b : List ℕ) → b ≡ tables_bytes s
@@ -165,15 +165,8 @@ module _ (s : State) (w : Whole s) where
   priority_put i low n b is =
       let one : 1 * i ≡ i = omega arith in
       let new = with_priority n (thread_of s i) in
-      rw one at (put_record i low new (false ∷ false ∷ false ∷ false ∷ false ∷ false ∷ true ∷ []) b is (refl, (refl, (refl, (refl, (refl, (refl, (refl, tt))))))))
+      rw one at (put_record i low new (false ∷ false ∷ false ∷ false ∷ false ∷ false ∷ true ∷ []) b is (refl, (refl, (refl, (refl, (refl, (refl, tt)))))))
       ∙ ap tables_bytes (sets_priority n i s new w.records low refl)
-
-  -- the owner of a thread's word
-  pub owner_put : (i : ℕ) → i < threads → (n : ℕ) (b : List ℕ) → b ≡ tables_bytes s
-      → sets b (owner_at + i) (bytes 1 n) ≡ tables_bytes (at_thread i (with_owner n) s)
-  owner_put i low n b is =
-      let one : 1 * i ≡ i = omega arith in
-      rw one at (put_record i low (with_owner n (thread_of s i)) (false ∷ false ∷ false ∷ false ∷ false ∷ false ∷ false ∷ true ∷ []) b is (refl, (refl, (refl, (refl, (refl, (refl, (refl, tt))))))))
 
   -- the list, some entries of it, or one, and the count
   entries_in : (list b : List ℕ) → length list ≡ threads → b ≡ tables_bytes s → InColumns (sets b list_at list) (set (columns s) 2 list)

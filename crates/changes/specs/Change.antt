@@ -26,14 +26,6 @@ on_list f s = record { clock = s.clock; threads = s.threads; list = f s.list; co
 abbrev pub Writes : (State → State) → List ℕ → List ℕ → Type 0
 Writes f b after = (s : State) → Whole s → b ≡ tables_bytes s → after ≡ tables_bytes (f s)
 
--- every address fits its field
-abbrev pub Addressed : State → Type 0
-Addressed s = (t : ℕ) → (thread_of s t).uaddr < word_limit
-
--- the same of a change that goes by addresses
-abbrev pub WritesFitting : (State → State) → List ℕ → List ℕ → Type 0
-WritesFitting f b after = (s : State) → Whole s → Addressed s → b ≡ tables_bytes s → after ≡ tables_bytes (f s)
-
 -- tables that keep the rules, and their bytes
 pub record Stands (s : State) (b : List ℕ) : Type 0 where
   pub bytes : b ≡ tables_bytes s
@@ -91,7 +83,7 @@ pub record Leave (place ts : List ℕ) (n : ℕ) (s : State) : Type 0 where
   pub each : all (λ t. elem t (arrivals s)) (take n ts) ≡ true
   pub apart : distinct (take n ts) ≡ true
 
--- each number fits its field, as in all tables that code holds; that the count, the priorities and the owners do is a table rule
+-- each number fits its field, as in all tables that code holds; that the count and the priorities do is a table rule
 pub record FitsThread (r : Thread) : Type 0 where
   pub uaddr : r.uaddr < word_limit
   pub bitset : r.bitset < word_limit

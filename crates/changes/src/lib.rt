@@ -5,17 +5,17 @@ ghost use Rattle.lists.specs.LittleEndian.{number_at};
 ghost use Rattle.tables.specs.declared.LastAnswer.TheVariants.{Woken, TimedOut};
 ghost use Rattle.tables.specs.declared.Change.TheVariants.{End};
 ghost use Rattle.tables.specs.Sizes.{processes, threads, no_entry};
-ghost use Rattle.tables.specs.Tables.{thread_of, arrivals, change, with_threads, with_sleep, ended, asleep_at, fall_asleep, end_sleeps, move_sleeps, set_priority, set_owner};
+ghost use Rattle.tables.specs.Tables.{thread_of, arrivals, change, with_threads, with_sleep, ended, asleep_at, fall_asleep, end_sleeps, move_sleeps, set_priority};
 ghost use Rattle.tables.specs.Steps.{Numbers, Places, changed_by, end_flagged};
 ghost use Rattle.views.specs.Views.{Views};
 ghost use Rattle.layout.specs.Layout.{time_bytes, count_at, last_byte, tables_size, thread_at, state_at, tables_bytes};
 ghost use Rattle.layout.specs.Check.{Held};
-ghost use Rattle.changes.specs.Change.{at_thread, on_list, Writes, WritesFitting, has_come, is_due, Sifted, StandsAt, Lowered, MovesOne, ColumnOf, Leave};
+ghost use Rattle.changes.specs.Change.{at_thread, on_list, Writes, has_come, is_due, Sifted, StandsAt, Lowered, MovesOne, ColumnOf, Leave};
 
 use arrivals::{either, index_of, one_if};
 use layout::{
-    BITSET_AT, COUNT_AT, DEADLINE_AT, LAST_AT, LIST_AT, OWNER_AT, PRIORITY_AT, TIME_SIZE, TIMED_AT,
-    UADDR_AT, WAITING_AT, WORD_SIZE,
+    BITSET_AT, COUNT_AT, DEADLINE_AT, LAST_AT, LIST_AT, PRIORITY_AT, TIME_SIZE, TIMED_AT, UADDR_AT,
+    WAITING_AT, WORD_SIZE,
 };
 use numbers::{put_u32, put_u64, u32_at, u64_at};
 use tables::{LastAnswer, State, THREADS, stored_deadline};
@@ -47,7 +47,6 @@ pub fn view_at(b: &[u8], process: usize, place: [u8; THREADS]) -> View
     let mut uaddr = [0u32; State::THREADS_PER_PROCESS];
     let mut bitset = [0u32; State::THREADS_PER_PROCESS];
     let mut priority = [0u16; State::THREADS_PER_PROCESS];
-    let mut owner = [0u16; State::THREADS_PER_PROCESS];
     let mut i: usize = 0;
     while i < State::THREADS_PER_PROCESS {
         let t = base + i;
@@ -55,7 +54,6 @@ pub fn view_at(b: &[u8], process: usize, place: [u8; THREADS]) -> View
         uaddr[i] = u32_at(b, UADDR_AT + WORD_SIZE * t);
         bitset[i] = u32_at(b, BITSET_AT + WORD_SIZE * t);
         priority[i] = b[PRIORITY_AT + t] as u16;
-        owner[i] = b[OWNER_AT + t] as u16;
         i += 1;
     }
     View {
@@ -63,7 +61,6 @@ pub fn view_at(b: &[u8], process: usize, place: [u8; THREADS]) -> View
         uaddr: uaddr,
         bitset: bitset,
         priority: priority,
-        owner: owner,
     }
 }
 
@@ -113,7 +110,6 @@ fn end_sleep(b: &mut [u8], i: usize, last: LastAnswer)
 {
     let answer = last_byte(last);
     put_sleep(b, i, false, 0, 0, false, 0);
-    b[OWNER_AT + i] = State::NO_OWNER;
     b[LAST_AT + i] = answer;
 }
 
@@ -123,24 +119,6 @@ pub fn set_priority(b: &mut [u8], t: usize, priority: u8)
     ensures { Writes (set_priority priority t) b.old b.new }
 {
     b[PRIORITY_AT + t] = priority;
-}
-
-// The word at an address of a process has another owner, if threads sleep there. A call sets it once sleepers are taken or one fell asleep,
-// when the sleepers of a word need not have one owner yet: so of the tables only the length is asked.
-pub fn set_owner(b: &mut [u8], process: usize, uaddr: u32, owner: u8)
-    requires { (length b.old ≡ tables_size) × (process < processes) }
-    ensures { WritesFitting (set_owner process uaddr owner) b.old b.new }
-{
-    let base = State::THREADS_PER_PROCESS * process;
-    let mut i: usize = 0;
-    while i < State::THREADS_PER_PROCESS {
-        let t = base + i;
-        let waits = b[WAITING_AT + t] == 1;
-        let at = u32_at(b, UADDR_AT + WORD_SIZE * t);
-        let old = b[OWNER_AT + t];
-        b[OWNER_AT + t] = either(waits & (at == uaddr), owner, old);
-        i += 1;
-    }
 }
 
 // The first n threads of ts run, with the answer.

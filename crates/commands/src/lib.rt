@@ -2,11 +2,10 @@
 ghost use Rattle.std.specs.Prelude.{◌≡◌, cond, ◌+◌, ◌-◌, min};
 ghost use Rattle.tables.specs.Sizes.{time_limit, match_any};
 ghost use Rattle.rules.specs.Commands.{numbered, command_of, not_implemented, uses};
-ghost use Rattle.rules.specs.Calls.{second_cap, timeout_given, plainly};
-ghost use Rattle.rules.specs.Events.{naming, wait_like, wake_like, is_single, requeue_like};
+ghost use Rattle.rules.specs.Calls.{second_cap, timeout_given};
 ghost use Rattle.commands.specs.Places.{thread_place, word_place};
 
-use rules::event::{Call, Command, OwnerRequeue, OwnerWait, Owning, Uses};
+use rules::event::{Call, Command, Uses};
 use tables::{PROCESSES, State, WORD_BYTES};
 
 const PRIVATE_BIT: u32 = 128;
@@ -17,13 +16,6 @@ const CLOCK_BIT: u32 = 256;
 const WORD_LIMIT: u64 = 1 << 32;
 
 const MATCH_ANY: u32 = (WORD_LIMIT - 1) as u32;
-
-// The commands that those of the owner family are like.
-const WAKE: u32 = 1;
-
-const CMP_REQUEUE: u32 = 4;
-
-const WAIT_BITSET: u32 = 9;
 
 const LAST_TIME: u64 = 18446744073709551615;
 
@@ -133,84 +125,6 @@ pub fn mask_of(c: Call, given: bool) -> u32
     ensures { result ≡ cond given c.val3 match_any }
 {
     if given { c.val3 } else { MATCH_ANY }
-}
-
-// What a plain call says of owners.
-pub fn plainly() -> Owning
-    ensures { result ≡ plainly }
-{
-    Owning {
-        names: false,
-        owner: State::NO_OWNER,
-        single: false,
-    }
-}
-
-// What a call of the owner family says of them.
-pub fn naming(owner: u8, single: bool) -> Owning
-    ensures { result ≡ naming owner single }
-{
-    Owning {
-        names: true,
-        owner: owner,
-        single: single,
-    }
-}
-
-// The calls that those of the owner family are like.
-pub fn wait_like(x: OwnerWait) -> Call
-    ensures { result ≡ wait_like x }
-{
-    Call {
-        process: x.process,
-        index: x.index,
-        op: WAIT_BITSET,
-        uaddr: x.uaddr,
-        val: x.val,
-        flag: x.flag,
-        timeout: x.deadline,
-        uaddr2: 0,
-        val3: MATCH_ANY,
-    }
-}
-
-pub fn wake_like(process: u8, index: u8, uaddr: u32) -> Call
-    ensures { result ≡ wake_like process index uaddr }
-{
-    Call {
-        process: process,
-        index: index,
-        op: WAKE,
-        uaddr: uaddr,
-        val: 1,
-        flag: 0,
-        timeout: 0,
-        uaddr2: 0,
-        val3: 0,
-    }
-}
-
-pub fn is_single(x: OwnerRequeue) -> bool
-    ensures { result ≡ is_single x }
-{
-    x.single != 0
-}
-
-pub fn requeue_like(x: OwnerRequeue) -> Call
-    ensures { result ≡ requeue_like x }
-{
-    let cap = if x.single != 0 { 1 } else { x.cap };
-    Call {
-        process: x.process,
-        index: x.index,
-        op: CMP_REQUEUE,
-        uaddr: x.uaddr,
-        val: cap,
-        flag: 0,
-        timeout: x.cap2 as u64,
-        uaddr2: x.uaddr2,
-        val3: x.val,
-    }
 }
 
 // The record of a thread; of one that does not exist, that of another.

@@ -1,5 +1,5 @@
 // Sums of events: each number of a record is mixed in, in the order of the log.
-use rules::event::{Call, Event, OwnerRequeue, OwnerWait};
+use rules::event::{Call, Event};
 
 fn mixed(h: u64, x: u64) -> u64 {
     ((h << 7) | (h >> 57)) ^ x
@@ -10,21 +10,6 @@ fn with_call(h: u64, c: Call) -> u64 {
     let word = mixed(mixed(place, c.op as u64), c.uaddr as u64);
     let val = mixed(mixed(word, c.val as u64), c.flag as u64);
     mixed(mixed(mixed(val, c.timeout), c.uaddr2 as u64), c.val3 as u64)
-}
-
-fn with_owner_wait(h: u64, x: OwnerWait) -> u64 {
-    let place = mixed(mixed(mixed(h, 6), x.process as u64), x.index as u64);
-    let word = mixed(mixed(place, x.uaddr as u64), x.val as u64);
-    let time = mixed(mixed(word, x.flag as u64), x.deadline);
-    mixed(time, x.owner as u64)
-}
-
-fn with_owner_requeue(h: u64, x: OwnerRequeue) -> u64 {
-    let place = mixed(mixed(mixed(h, 8), x.process as u64), x.index as u64);
-    let word = mixed(mixed(place, x.uaddr as u64), x.cap as u64);
-    let target = mixed(mixed(word, x.val as u64), x.uaddr2 as u64);
-    let moves = mixed(mixed(target, x.cap2 as u64), x.owner as u64);
-    mixed(moves, x.single as u64)
 }
 
 // A query has no record, and none is found.
@@ -47,17 +32,5 @@ pub(crate) fn with_event(h: u64, e: Event) -> u64 {
             index: i,
             priority: n,
         } => mixed(mixed(mixed(mixed(h, 5), p as u64), i as u64), n as u64),
-        Event::OwnerWait(x) => with_owner_wait(h, x),
-        Event::OwnerWake {
-            process: p,
-            index: i,
-            uaddr: a,
-        } => mixed(mixed(mixed(mixed(h, 7), p as u64), i as u64), a as u64),
-        Event::OwnerRequeue(x) => with_owner_requeue(h, x),
-        Event::OwnerQuery {
-            process: p,
-            index: i,
-            uaddr: a,
-        } => mixed(mixed(mixed(mixed(h, 9), p as u64), i as u64), a as u64),
     }
 }

@@ -48,7 +48,6 @@ pub(crate) fn answer(a: Answer) {
             spaced(p.lowest as u64);
             text(b"\n");
         }
-        Answer::Owner(n) => line(n as u64),
     }
 }
 
@@ -60,7 +59,7 @@ fn bit(b: bool) -> u64 {
 fn thread(i: usize, t: Thread) {
     let a = t.last;
     let last = last_code(a);
-    let changed = (last != 0) | (t.priority != 0) | (t.owner != State::NO_OWNER);
+    let changed = (last != 0) | (t.priority != 0);
     if changed | t.waiting | t.timed | (t.uaddr != 0) | (t.bitset != 0) | (t.deadline != 0) {
         text(b"thread");
         spaced(i as u64);
@@ -71,7 +70,6 @@ fn thread(i: usize, t: Thread) {
         spaced(t.deadline);
         spaced(last);
         spaced(t.priority as u64);
-        spaced(t.owner as u64);
         text(b"\n");
     }
 }

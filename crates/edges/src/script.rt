@@ -1,7 +1,7 @@
 // Scripts: records of a kind byte and a body, numbers little-endian; second/README.md describes them.
 ghost use Rattle.std.specs.Prelude.{◌≤◌, ◌<◌};
 
-use rules::event::{Call, Event, OwnerRequeue, OwnerWait};
+use rules::event::{Call, Event};
 use tables::{LastAnswer, State, THREADS, Thread};
 
 // The kind of the next record; 0 at the end of the script.
@@ -20,10 +20,6 @@ fn body_length(kind: u8) -> usize
         3 => 8,
         4 => 2,
         5 => 3,
-        6 => 20,
-        7 => 6,
-        8 => 24,
-        9 => 6,
         77 => 4,
         80 => 10,
         81 => 1,
@@ -67,9 +63,9 @@ pub(crate) fn u64_at(b: [u8; 32], at: usize) -> u64
     low as u64 + 4294967296 * (high as u64)
 }
 
-// Kinds 1 to 9 as in a log, and a panel query.
+// Kinds 1 to 5 as in a log, and a panel query.
 pub(crate) fn is_event(kind: u8) -> bool {
-    (kind <= 9) | (kind == 81)
+    (kind <= 5) | (kind == 81)
 }
 
 pub(crate) fn event_of(kind: u8, b: [u8; 32]) -> Event {
@@ -90,18 +86,6 @@ pub(crate) fn event_of(kind: u8, b: [u8; 32]) -> Event {
             index: b[1],
             priority: b[2],
         },
-        6 => Event::OwnerWait(owner_wait_of(b)),
-        7 => Event::OwnerWake {
-            process: b[0],
-            index: b[1],
-            uaddr: u32_at(b, 2),
-        },
-        8 => Event::OwnerRequeue(owner_requeue_of(b)),
-        9 => Event::OwnerQuery {
-            process: b[0],
-            index: b[1],
-            uaddr: u32_at(b, 2),
-        },
         _ => Event::Query { process: b[0] },
     }
 }
@@ -117,32 +101,6 @@ fn call_of(b: [u8; 32]) -> Call {
         timeout: u64_at(b, 15),
         uaddr2: u32_at(b, 23),
         val3: u32_at(b, 27),
-    }
-}
-
-fn owner_wait_of(b: [u8; 32]) -> OwnerWait {
-    OwnerWait {
-        process: b[0],
-        index: b[1],
-        uaddr: u32_at(b, 2),
-        val: u32_at(b, 6),
-        flag: b[10],
-        deadline: u64_at(b, 11),
-        owner: b[19],
-    }
-}
-
-fn owner_requeue_of(b: [u8; 32]) -> OwnerRequeue {
-    OwnerRequeue {
-        process: b[0],
-        index: b[1],
-        uaddr: u32_at(b, 2),
-        cap: u32_at(b, 6),
-        val: u32_at(b, 10),
-        uaddr2: u32_at(b, 14),
-        cap2: u32_at(b, 18),
-        owner: b[22],
-        single: b[23],
     }
 }
 
@@ -179,7 +137,6 @@ fn poked(t: Thread, field: u8, v: u64) -> Thread {
     let bitset = pick(field == 5, v, t.bitset as u64);
     let last = last_of(pick(field == 8, v, code));
     let priority = pick(field == 9, v, t.priority as u64);
-    let owner = pick(field == 10, v, t.owner as u64);
     Thread {
         waiting: pick_bit(field == 3, v, t.waiting),
         uaddr: (uaddr % 4294967296) as u32,
@@ -188,7 +145,6 @@ fn poked(t: Thread, field: u8, v: u64) -> Thread {
         deadline: pick(field == 7, v, t.deadline),
         last: last,
         priority: (priority % 256) as u8,
-        owner: (owner % 256) as u8,
     }
 }
 

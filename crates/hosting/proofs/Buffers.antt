@@ -14,9 +14,7 @@ use Rattle.lists.proofs.LittleEndian.{le_below, bytes_drop}
 use Rattle.lists.proofs.Tests.{cases, clash}
 use Rattle.tables.specs.Sizes.{threads, word_bytes, memory_words}
 use Rattle.tables.specs.Tables.{tables_ok}
-use Rattle.tables.specs.Editions.{present}
 use Rattle.tables.proofs.Sound.{tables_sound}
-use Rattle.tables.proofs.Owners.{tables_owned}
 use Rattle.rules.specs.declared.event.Event.{Event}
 use Rattle.rules.specs.declared.event.Event.TheVariants.{Query}
 use Rattle.rules.specs.declared.answer.Refusal.{Refusal}
@@ -77,7 +75,7 @@ module _ (b m : List ℕ) (lb : Bytes b) (lm : Bytes m) where
       record {
         tables = h.bytes ∙ ap tables_bytes (sym h.tables);
         words = words_exact memory_words m size lm;
-        valid = record { memory = words_length memory_words m size; sound = tables_sound (tables_at b) (ap tables_ok h.tables ∙ h.sound); owned = tables_owned present (tables_at b) (ap tables_ok h.tables ∙ h.sound) };
+        valid = record { memory = words_length memory_words m size; sound = tables_sound (tables_at b) (ap tables_ok h.tables ∙ h.sound) };
         fits = record { state = subst Fits (sym h.tables) (state_fits b h.size lb); words = word_fits memory_words m size lm };
       }
 

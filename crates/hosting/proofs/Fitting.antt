@@ -15,19 +15,18 @@ use Rattle.tables.specs.declared.Thread.{Thread}
 use Rattle.tables.specs.declared.LastAnswer.{LastAnswer}
 use Rattle.rules.specs.declared.event.Command.{Command}
 use Rattle.rules.specs.declared.event.Call.{Call}
-use Rattle.rules.specs.declared.event.Owning.{Owning}
 use Rattle.rules.specs.declared.event.Event.{Event}
-use Rattle.rules.specs.declared.event.Event.TheVariants.{Call as CallEvent, Store, Clock, Interrupt, Query, SetPriority, OwnerWait, OwnerWake, OwnerRequeue, OwnerQuery}
+use Rattle.rules.specs.declared.event.Event.TheVariants.{Call as CallEvent, Store, Clock, Interrupt, Query, SetPriority}
 use Rattle.tables.specs.Sizes.{threads, word_bits, word_limit, match_any, word_bytes}
-use Rattle.tables.specs.Tables.{World, thread_number, fresh_thread, ended, thread_of, moved_to, asleep_at, end_in, move_in, sleep_in, set_priority, set_owner_in, write_word, word_at}
+use Rattle.tables.specs.Tables.{World, thread_number, fresh_thread, ended, thread_of, asleep_at, end_in, move_in, sleep_in, set_priority, write_word, word_at}
 use Rattle.rules.specs.Commands.{command_of, uses}
 use Rattle.rules.specs.Signed.{modulo}
-use Rattle.rules.specs.WakeOp.{op_field, op_arg, op_code, operand, operate, new_word, compares}
-use Rattle.rules.specs.Calls.{old_word, mask_of, timeout_given, deadline_of, wait, wake, requeue, wake_op, call_effect}
-use Rattle.rules.specs.Events.{is_single, clock_effect, interrupt_effect, effect, step}
-use Rattle.rules.specs.Claims.{Asks, as_call, as_owner_wait, as_owner_wake, as_owner_requeue, sleeps_by, but_owner, Fate, stays, sleeps, wakes, moves, times_out, is_interrupted, is_set}
+use Rattle.rules.specs.WakeOp.{op_field, op_arg, op_code, operand, operate, new_word}
+use Rattle.rules.specs.Calls.{mask_of, timeout_given, deadline_of, wait, wake, requeue, wake_op, call_effect}
+use Rattle.rules.specs.Events.{clock_effect, interrupt_effect, effect, step}
+use Rattle.rules.specs.Claims.{Fate, stays, sleeps, wakes, moves, times_out, is_interrupted, is_set}
 use Rattle.rules.proofs.Commands.{by_command}
-use Rattle.rules.proofs.Rows.{asks_effect, step_keeps}
+use Rattle.rules.proofs.Rows.{step_keeps}
 use Rattle.rules.proofs.Signed.{modulo_low}
 use Rattle.rules.proofs.Theorems.{fate}
 use Rattle.changes.specs.Change.{FitsThread, Fits}
@@ -63,36 +62,6 @@ asleep_fits c w r f =
       deadline = choose (timeout_given c) _ 0 (256 ^ 8) (choose (uses k).mask c.timeout _ (256 ^ 8) f.timeout (omega arith)) (omega arith);
     }
 
--- an owner call is like a call whose arguments fit
-asks_fits : {e : Event} {c : Call} {o : Owning} → Asks e c o → EventFits e → CallFits c
-asks_fits (as_call c) f = f
-asks_fits (as_owner_wait x) f =
-    record {
-      process = f.process;
-      index = f.index;
-      op = omega arith;
-      uaddr = f.uaddr;
-      val = f.val;
-      flag = f.flag;
-      timeout = f.deadline;
-      uaddr2 = omega arith;
-      val3 = omega arith;
-    }
-asks_fits (as_owner_wake p i a) f =
-    record { process = f.0; index = f.1; op = omega arith; uaddr = f.2; val = omega arith; flag = omega arith; timeout = omega arith; uaddr2 = omega arith; val3 = omega arith }
-asks_fits (as_owner_requeue x) f =
-    record {
-      process = f.process;
-      index = f.index;
-      op = omega arith;
-      uaddr = f.uaddr;
-      val = choose (is_single x) 1 x.cap word_limit (omega arith) f.cap;
-      flag = omega arith;
-      timeout = omega (arith, f.cap2);
-      uaddr2 = f.uaddr2;
-      val3 = f.val;
-    }
-
 thread_fits : (e : Event) (w : World) (t : ℕ) → EventFits e → t < threads → Fits w.state → FitsThread (thread_of (step e w).world.state t)
 thread_fits e w t f low g = by (fate e w t)
   where
@@ -102,17 +71,11 @@ thread_fits e w t f low g = by (fate e w t)
     at : (r : Thread) → thread_of (step e w).world.state t ≡ r → FitsThread r → FitsThread (thread_of (step e w).world.state t)
     at r is h = subst FitsThread (sym is) h
 
-    -- whatever the owner
-    but : (r : Thread) → but_owner (thread_of (step e w).world.state t) ≡ but_owner r → FitsThread r → FitsThread (thread_of (step e w).world.state t)
-    but r is h =
-        let g : FitsThread (but_owner (thread_of (step e w).world.state t)) = subst FitsThread (sym is) (record { uaddr = h.uaddr; bitset = h.bitset; deadline = h.deadline }) in
-        record { uaddr = g.uaddr; bitset = g.bitset; deadline = g.deadline }
-
     by : Fate e w t → FitsThread (thread_of (step e w).world.state t)
-    by (stays is) = but (thread_of w.state t) is old
-    by (sleeps {c} asks who s is) = but (sleeps_by c w (thread_of w.state t)) is (asleep_fits c w (thread_of w.state t) (asks_fits asks f))
-    by (wakes asks there is) = at _ is (ended_fits _ (thread_of w.state t))
-    by (moves {c} asks there is) = but (moved_to c.uaddr2 (thread_of w.state t)) is (record { uaddr = (asks_fits asks f).uaddr2; bitset = old.bitset; deadline = old.deadline })
+    by (stays is) = at (thread_of w.state t) is old
+    by (sleeps c same who s is) = at _ is (asleep_fits c w (thread_of w.state t) (subst EventFits same f))
+    by (wakes c same there is) = at _ is (ended_fits _ (thread_of w.state t))
+    by (moves c same there is) = at _ is (record { uaddr = (subst EventFits same f).uaddr2; bitset = old.bitset; deadline = old.deadline })
     by (times_out now same there is) = at _ is (ended_fits _ (thread_of w.state t))
     by (is_interrupted p i same who there is) = at _ is (ended_fits _ (thread_of w.state t))
     by (is_set set) = at _ set.left (record { uaddr = old.uaddr; bitset = old.bitset; deadline = old.deadline })
@@ -141,48 +104,33 @@ set_fits ws i v f h j = cases (eqb j i)
     (λ e. rw (get_or-set_other ws i j v 0 (eqb-false j i e)) (f j))
 
 -- the clock and the words that an event leaves
-call_clock : (k : Command) (c : Call) (o : Owning) (w : World) → (call_effect k c o w).world.state.clock ≡ w.state.clock
-unfolding wait wake requeue wake_op sleep_in end_in move_in set_owner_in write_word
-call_clock k c o w = by_command (λ k f. (f c o w).world.state.clock ≡ w.state.clock) (λ k i. refl) (λ k. refl) (λ k. refl)
-    (cases (compares c.val3 (old_word c w)) (λ e. rw e) (λ e. rw e)) refl k
+call_clock : (k : Command) (c : Call) (w : World) → (call_effect k c w).world.state.clock ≡ w.state.clock
+unfolding wait wake requeue wake_op sleep_in end_in move_in write_word
+call_clock k c w = by_command (λ k f. (f c w).world.state.clock ≡ w.state.clock) (λ k i. refl) (λ k. refl) (λ k. refl) refl refl k
 
-call_words : (k : Command) (c : Call) (o : Owning) (w : World) → WordsFit w.words → WordsFit (call_effect k c o w).world.words
+call_words : (k : Command) (c : Call) (w : World) → WordsFit w.words → WordsFit (call_effect k c w).world.words
 unfolding wait wake requeue wake_op write_word
-call_words k c o w f =
-    by_command (λ k g. WordsFit (g c o w).world.words) (λ k i. f) (λ k. f) (λ k. f)
+call_words k c w f =
+    by_command (λ k g. WordsFit (g c w).world.words) (λ k i. f) (λ k. f) (λ k. f)
     (set_fits w.words _ _ f (word_low c.val3 (word_at w c.process c.uaddr2) (f _))) f k
-
-asks_clock : {e : Event} {c : Call} {o : Owning} → Asks e c o → (w : World) → w.state.clock < 256 ^ 8 → (effect e w).world.state.clock < 256 ^ 8
-asks_clock {c = c} {o = o} is w h = rw (asks_effect is w, call_clock (command_of c.op) c o w) h
-
-asks_words : {e : Event} {c : Call} {o : Owning} → Asks e c o → (w : World) → WordsFit w.words → WordsFit (effect e w).world.words
-asks_words {c = c} {o = o} is w h = rw (asks_effect is w) (call_words (command_of c.op) c o w h)
 
 effect_clock : (e : Event) (w : World) → EventFits e → w.state.clock < 256 ^ 8 → (effect e w).world.state.clock < 256 ^ 8
 unfolding effect write_word clock_effect interrupt_effect end_in set_priority
-effect_clock (CallEvent c) w f h = asks_clock (as_call c) w h
+effect_clock (CallEvent c) w f h = rw (call_clock (command_of c.op) c w) h
 effect_clock (Store p a v) w f h = h
 effect_clock (Clock now) w f h = f
 effect_clock (Interrupt p i) w f h = cases (thread_of w.state (thread_number p i)).waiting (λ e. rw e h) (λ e. rw e h)
 effect_clock (Query p) w f h = h
 effect_clock (SetPriority p i n) w f h = h
-effect_clock (OwnerWait x) w f h = asks_clock (as_owner_wait x) w h
-effect_clock (OwnerWake p i a) w f h = asks_clock (as_owner_wake p i a) w h
-effect_clock (OwnerRequeue x) w f h = asks_clock (as_owner_requeue x) w h
-effect_clock (OwnerQuery p i a) w f h = h
 
 effect_words : (e : Event) (w : World) → EventFits e → WordsFit w.words → WordsFit (effect e w).world.words
 unfolding effect write_word clock_effect interrupt_effect
-effect_words (CallEvent c) w f h = asks_words (as_call c) w h
+effect_words (CallEvent c) w f h = call_words (command_of c.op) c w h
 effect_words (Store p a v) w f h = set_fits w.words _ v h f.2
 effect_words (Clock now) w f h = h
 effect_words (Interrupt p i) w f h = cases (thread_of w.state (thread_number p i)).waiting (λ e. rw e h) (λ e. rw e h)
 effect_words (Query p) w f h = h
 effect_words (SetPriority p i n) w f h = h
-effect_words (OwnerWait x) w f h = asks_words (as_owner_wait x) w h
-effect_words (OwnerWake p i a) w f h = asks_words (as_owner_wake p i a) w h
-effect_words (OwnerRequeue x) w f h = asks_words (as_owner_requeue x) w h
-effect_words (OwnerQuery p i a) w f h = h
 
 pub step_fits : (e : Event) (w : World) → EventFits e → FitsWorld w → FitsWorld (step e w).world
 step_fits e w f g =

@@ -6,11 +6,11 @@ use Prim.Native.Nat.{ℕ}
 use lib.IntN.{ℤ, pos, negsuc}
 use Rattle.lists.proofs.Tests.{cases, clash}
 use Rattle.rules.specs.declared.event.Event.{Event}
-use Rattle.rules.specs.declared.event.Event.TheVariants.{Call as CallEvent, Store, Clock, Interrupt, Query, SetPriority, OwnerWait, OwnerWake, OwnerRequeue, OwnerQuery}
+use Rattle.rules.specs.declared.event.Event.TheVariants.{Call as CallEvent, Store, Clock, Interrupt, Query, SetPriority}
 use Rattle.rules.specs.declared.answer.Answer.{Answer}
-use Rattle.rules.specs.declared.answer.Answer.TheVariants.{Asleep, Count, Refused, Waiting, Owner}
+use Rattle.rules.specs.declared.answer.Answer.TheVariants.{Asleep, Count, Refused, Waiting}
 use Rattle.tables.specs.Tables.{World, write_word}
-use Rattle.tables.proofs.Owners.{sound_tables}
+use Rattle.tables.proofs.Sound.{sound_tables}
 use Rattle.rules.specs.Answers.{is_refused}
 use Rattle.rules.specs.Events.{refusals, clock_effect, panel, effect, step}
 use Rattle.rules.proofs.Rows.{step_keeps}
@@ -33,10 +33,6 @@ state_kept (Clock now) w h = clash true refl h
 state_kept (Interrupt p i) w h = clash true refl h
 state_kept (SetPriority p i n) w h = clash true refl h
 state_kept (Query p) w h = step_keeps (λ u. u.state ≡ w.state) (Query p) w refl (λ h. refl)
-state_kept (OwnerWait x) w h = clash true refl h
-state_kept (OwnerWake p i a) w h = clash true refl h
-state_kept (OwnerRequeue x) w h = clash true refl h
-state_kept (OwnerQuery p i a) w h = step_keeps (λ u. u.state ≡ w.state) (OwnerQuery p i a) w refl (λ h. refl)
 
 words_kept : (e : Event) (w : World) → touches_words e ≡ false → (step e w).world.words ≡ w.words
 unfolding effect clock_effect
@@ -46,10 +42,6 @@ words_kept (Clock now) w h = step_keeps (λ u. u.words ≡ w.words) (Clock now) 
 words_kept (Interrupt p i) w h = step_keeps (λ u. u.words ≡ w.words) (Interrupt p i) w refl (λ h. interrupt_words _ w)
 words_kept (SetPriority p i n) w h = step_keeps (λ u. u.words ≡ w.words) (SetPriority p i n) w refl (λ h. refl)
 words_kept (Query p) w h = step_keeps (λ u. u.words ≡ w.words) (Query p) w refl (λ h. refl)
-words_kept (OwnerWait x) w h = clash true refl h
-words_kept (OwnerWake p i a) w h = clash true refl h
-words_kept (OwnerRequeue x) w h = clash true refl h
-words_kept (OwnerQuery p i a) w h = step_keeps (λ u. u.words ≡ w.words) (OwnerQuery p i a) w refl (λ h. refl)
 
 pub asked : (p : ℕ) (w : World) → (step (Query p) w).world ≡ w
 unfolding step refusals effect
@@ -76,7 +68,6 @@ below_refused Asleep n h = ap below_zero_lem (sym h)
 below_refused (Count k) n h = ap below_zero_lem (sym h)
 below_refused (Refused x) n h = refl
 below_refused (Waiting v) n h = ap below_zero_lem (sym h)
-below_refused (Owner k) n h = ap below_zero_lem (sym h)
 
 pub record Stand (b m : List ℕ) (w : World) : Type 0 where
   pub tables : b ≡ tables_bytes w.state
@@ -86,7 +77,7 @@ pub record Stand (b m : List ℕ) (w : World) : Type 0 where
 
 pub seen_is : (b m : List ℕ) (w : World) → Stand b m w → seen b m ≡ w
 seen_is b m w s =
-    let tables = tables_back w.state b (record { bytes = s.tables; sound = sound_tables w.state s.valid.sound s.valid.owned }) s.fits.state in
+    let tables = tables_back w.state b (record { bytes = s.tables; sound = sound_tables w.state s.valid.sound }) s.fits.state in
     let words = ap words_at s.words ∙ words_stand w.words s.valid.memory (λ i l. s.fits.words i) in
     λ j. record { state = tables j; words = words j }
 
@@ -97,7 +88,6 @@ module _ (b m : List ℕ) (s : Stand b m (seen b m)) where
   refused_world e Asleep is h = clash false h refl
   refused_world e (Count n) is h = clash false h refl
   refused_world e (Waiting v) is h = clash false h refl
-  refused_world e (Owner n) is h = clash false h refl
 
   left_tables : (e : Event) → tables_left (step e (seen b m)) b ≡ tables_bytes (step e (seen b m)).world.state
   left_tables e = cases (is_refused (step e (seen b m)).answer)

@@ -8,10 +8,11 @@ use lib.Signed.{mag}
 use mir.Syntax.{w32, w64}
 use mir.Val.{hbits, SFits, to_z, of_z}
 use mir.Facts.{sfits_to_z, sfits_widen, Fits-of_z, to_z-of_z}
+use Rattle.rules.specs.declared.event.Call.{Call}
 use Rattle.rules.specs.declared.event.Event.{Event}
-use Rattle.rules.specs.declared.event.Event.TheVariants.{Store, Query}
+use Rattle.rules.specs.declared.event.Event.TheVariants.{Call as CallEvent, Store, Query}
 use Rattle.rules.specs.Events.{is_query}
-use Rattle.vradomil.specs.Host.{seen, host_number, Calls, Reads, ChangesWords, ChangesTables, Shows}
+use Rattle.vradomil.specs.Host.{seen, host_number, Calls, ChangesWords, ChangesTables, Shows}
 use Rattle.hosting.proofs.Hosting.{shown}
 use Rattle.hosting.specs.Hosts.{Hosted, touches_tables, touches_words}
 
@@ -23,13 +24,8 @@ pub back : (z : ℤ) → mag z < 2 ^ hbits w32 → to_z w64 (of_z w64 (to_z w32 
 back z h = to_z-of_z (wide z h) ∙ to_z-of_z {z = z} (record { sfits = h })
 
 -- what each kind of entry point ensures
-pub by_call : {e : Event} {b m lent b1 m1 told : List ℕ} {r : ℤ} → touches_tables e ≡ true → touches_words e ≡ true → is_query e ≡ false
-    → Calls e b m lent r b1 m1 told → Hosted e b m lent r b1 m1 told
-by_call t w q h = record { number = h.number; tables = rw t h.tables; words = rw w h.words; report = rw q h.report; fits = h.fits }
-
-pub by_reading : {e : Event} {b m lent told : List ℕ} {r : ℤ} → touches_tables e ≡ false → touches_words e ≡ false → is_query e ≡ false
-    → Reads e b m lent r told → Hosted e b m lent r b m told
-by_reading t w q h = record { number = h.number; tables = rw t; words = rw w; report = rw q h.report; fits = h.fits }
+pub by_call : {c : Call} {b m lent b1 m1 told : List ℕ} {r : ℤ} → Calls c b m lent r b1 m1 told → Hosted (CallEvent c) b m lent r b1 m1 told
+by_call h = record { number = h.number; tables = h.tables; words = h.words; report = h.report; fits = h.fits }
 
 pub by_words : {p a v : ℕ} {b m lent m1 told : List ℕ} {r : ℤ} → ChangesWords (Store p a v) b m lent r m1 told → Hosted (Store p a v) b m lent r b m1 told
 by_words h = record { number = h.number; tables = refl; words = h.bytes; report = h.report; fits = h.fits }

@@ -16,10 +16,9 @@ use Rattle.tables.specs.Editions.{present}
 use Rattle.tables.specs.Tables.{fresh_in, fresh, fresh_thread, thread_of}
 use Rattle.rules.specs.History.{start}
 use Rattle.rules.proofs.Preserved.{start_valid}
-use Rattle.tables.proofs.Sound.{fresh_sound}
-use Rattle.tables.proofs.Owners.{fresh_owned, sound_tables}
+use Rattle.tables.proofs.Sound.{fresh_sound, sound_tables}
 use Rattle.changes.specs.Change.{Fits}
-use Rattle.layout.specs.Layout.{tables_bytes, tables_size, words_bytes, words_at, list_at, waiting_at, owner_at}
+use Rattle.layout.specs.Layout.{tables_bytes, tables_size, words_bytes, words_at, list_at, waiting_at}
 use Rattle.vradomil.specs.Host.{seen}
 use Rattle.vradomil.proofs.Laying.{fresh_size, fresh_byte}
 use Rattle.vradomil.proofs.Theorems.{tables_stand}
@@ -37,11 +36,11 @@ fresh_fits =
     }
 
 pub fresh_seen : (m : List ℕ) → seen (tables_bytes fresh) m ≡ start (words_at m)
-fresh_seen m = λ j. record { state = tables_stand fresh (sound_tables fresh (fresh_sound present) (fresh_owned present)) fresh_fits j; words = words_at m }
+fresh_seen m = λ j. record { state = tables_stand fresh (sound_tables fresh (fresh_sound present)) fresh_fits j; words = words_at m }
 
 pub fresh_low : Bytes (tables_bytes fresh)
 fresh_low i = cases (ltb i tables_size)
-    (λ e. subst (◌< 256) (fresh_byte i (ltb-true i tables_size e)) (cases (leb owner_at i) (λ o. rw o (omega arith)) (λ o. rw o (cases (leb list_at i && ltb i waiting_at) (λ k. rw k (omega arith)) (λ k. rw k (omega arith))))))
+    (λ e. subst (◌< 256) (fresh_byte i (ltb-true i tables_size e)) (cases (leb list_at i && ltb i waiting_at) (λ k. rw k (omega arith)) (λ k. rw k (omega arith))))
     (λ e.
     let out : length (tables_bytes fresh) ≤ i = omega (arith, fresh_size, ltb-false i tables_size e) in
     rw (get_or-eq_default (tables_bytes fresh) 0 out) (omega arith))

@@ -51,7 +51,7 @@ pub host_run : (room : Event → ℕ) {h : List Event} {b m b' m' : List ℕ} {h
 host_run room {b = b} {m} lb lm run = ran room run (lent b m lb lm)
 
 -- the lengths of the two buffers
-pub host_sizes : (tables_size ≡ 1424) × (memory_size ≡ 32768)
+pub host_sizes : (tables_size ≡ 1360) × (memory_size ≡ 32768)
 host_sizes = (refl, refl)
 
 -- where each field stands in them: docs/TABLES.md, column by column
@@ -65,7 +65,6 @@ pub host_columns : (b : List ℕ) (t : ℕ)
       deadline = number_at 8 (784 + 8 * t) b;
       last = last_of (get_or b (208 + t) 0);
       priority = get_or b (1296 + t) 0;
-      owner = get_or b (1360 + t) 0;
     }
 host_columns b t = refl
 

@@ -1,7 +1,7 @@
 -- A short day of a display, and what a host in C hears of it, by the papers' numbers. proofs/Theorems.antt has its statement, `host-day`.
 use Rattle.std.specs.Prelude.{List, [], ◌∷◌, ℕ, ℤ, pos, neg_ℤ}
 use Rattle.rules.specs.declared.event.Event.{Event}
-use Rattle.rules.specs.declared.event.Event.TheVariants.{Call, Store, Clock, Interrupt, Query, SetPriority, OwnerWait, OwnerWake, OwnerRequeue, OwnerQuery}
+use Rattle.rules.specs.declared.event.Event.TheVariants.{Call, Store, Clock, Interrupt, Query, SetPriority}
 use Rattle.hosting.specs.Hosts.{Heard}
 
 -- thread (p, i) waits at address 8, where flag says whether a timeout is given, or wakes there
@@ -38,20 +38,6 @@ day =
     ∷ SetPriority 0 7 32
     ∷ SetPriority 0 8 32
     ∷ SetPriority 8 0 0
-    -- threads 0 and 1 wait for 2, who owns the word; 3 is not let sleep there with 0 as owner, who sleeps there; nor is 2 its own owner, however
-    -- late its deadline; there is no owner 8
-    ∷ OwnerWait (record { process = 0; index = 0; uaddr = 8; val = 5; flag = 0; deadline = 0; owner = 2 })
-    ∷ OwnerWait (record { process = 0; index = 1; uaddr = 8; val = 5; flag = 0; deadline = 0; owner = 2 })
-    ∷ OwnerQuery 0 2 8
-    ∷ OwnerWait (record { process = 0; index = 3; uaddr = 8; val = 5; flag = 0; deadline = 0; owner = 0 })
-    ∷ OwnerWait (record { process = 0; index = 2; uaddr = 8; val = 5; flag = 1; deadline = 7; owner = 2 })
-    ∷ OwnerWait (record { process = 0; index = 3; uaddr = 8; val = 5; flag = 0; deadline = 0; owner = 8 })
-    -- the owner lets go: 0 runs and owns the word for which 1 waits, who is moved to another word and waits for 3
-    ∷ OwnerWake 0 2 8
-    ∷ OwnerQuery 0 2 8
-    ∷ OwnerRequeue (record { process = 0; index = 2; uaddr = 8; cap = 0; val = 5; uaddr2 = 12; cap2 = 1; owner = 3; single = 0 })
-    ∷ OwnerQuery 0 2 8
-    ∷ OwnerQuery 0 2 12
     ∷ []
 
 -- a number, and the reason beside it in a report of one byte
@@ -82,15 +68,4 @@ day_heard =
     ∷ says (neg_ℤ (pos 22)) 8
     ∷ says (neg_ℤ (pos 3)) 0
     ∷ says (neg_ℤ (pos 3)) 0
-    ∷ says (pos 2147483647) 0
-    ∷ says (pos 2147483647) 0
-    ∷ says (pos 2) 0
-    ∷ says (neg_ℤ (pos 22)) 9
-    ∷ says (neg_ℤ (pos 22)) 9
-    ∷ says (neg_ℤ (pos 3)) 0
-    ∷ says (pos 1) 0
-    ∷ says (pos 0) 0
-    ∷ says (pos 1) 0
-    ∷ says (pos 255) 0
-    ∷ says (pos 3) 0
     ∷ []

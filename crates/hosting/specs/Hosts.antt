@@ -2,7 +2,7 @@
 -- contract of its entry point.
 use Rattle.std.specs.Prelude.{◌≡◌, Bool, true, false, cond, List, [], ◌∷◌, ℕ, ℤ, length, take}
 use Rattle.rules.specs.declared.event.Event.{Event}
-use Rattle.rules.specs.declared.event.Event.TheVariants.{Call as CallEvent, Store, Clock, Interrupt, Query, SetPriority, OwnerWait, OwnerWake, OwnerRequeue, OwnerQuery}
+use Rattle.rules.specs.declared.event.Event.TheVariants.{Call as CallEvent, Store, Clock, Interrupt, Query, SetPriority}
 use Rattle.rules.specs.declared.answer.Answer.{Answer}
 use Rattle.rules.specs.Events.{is_query, step}
 use Rattle.vradomil.specs.Host.{seen, tables_left, words_left, host_number, report_bytes, report_size, laid_over, EventFits}
@@ -15,10 +15,6 @@ touches_tables (Clock now) = true
 touches_tables (Interrupt p i) = true
 touches_tables (Query p) = false
 touches_tables (SetPriority p i n) = true
-touches_tables (OwnerWait x) = true
-touches_tables (OwnerWake p i a) = true
-touches_tables (OwnerRequeue x) = true
-touches_tables (OwnerQuery p i a) = false
 
 abbrev pub touches_words : Event → Bool
 touches_words (CallEvent c) = true
@@ -27,10 +23,6 @@ touches_words (Clock now) = false
 touches_words (Interrupt p i) = false
 touches_words (Query p) = false
 touches_words (SetPriority p i n) = false
-touches_words (OwnerWait x) = true
-touches_words (OwnerWake p i a) = true
-touches_words (OwnerRequeue x) = true
-touches_words (OwnerQuery p i a) = false
 
 -- What one call of the library answers and leaves, as `pass` and `pass_report` (src/lib.rt) ensure it of the code. A buffer that it is lent to
 -- read, or not lent, stays. `lent` are the bytes for a report, of which there are none where the host asks for the number alone; a panel query

@@ -1,26 +1,21 @@
 // Hosting: what is proved of whole histories that a host in C runs through the library. It stands on vradomil.
-ghost use Rattle.std.specs.Prelude.{[], ◌≡◌};
-ghost use Rattle.rules.specs.declared.event.Event.TheVariants.{Call as CallEvent, OwnerWait as OwnerWaitEvent, OwnerRequeue as OwnerRequeueEvent};
+ghost use Rattle.std.specs.Prelude.{[]};
 ghost use Rattle.vradomil.specs.Host.{Calls};
 ghost use Rattle.hosting.specs.Hosts.{Hosted};
 
-use rules::event::{Call, Event, OwnerRequeue, OwnerWait};
+use rules::event::{Call, Event};
 use vradomil::call::vradomil_call;
 use vradomil::event::{
     vradomil_clock, vradomil_interrupt, vradomil_query, vradomil_set_priority, vradomil_store,
 };
-use vradomil::owner::{
-    vradomil_get_owner, vradomil_owner_requeue, vradomil_owner_wait, vradomil_wake_single_owner,
-};
 use vradomil::report::{
-    vradomil_call_report, vradomil_clock_report, vradomil_get_owner_report,
-    vradomil_interrupt_report, vradomil_owner_requeue_report, vradomil_owner_wait_report,
-    vradomil_set_priority_report, vradomil_store_report, vradomil_wake_single_owner_report,
+    vradomil_call_report, vradomil_clock_report, vradomil_interrupt_report,
+    vradomil_set_priority_report, vradomil_store_report,
 };
 
 // A call, as a host passes it.
 fn pass_call(tables: &mut [u8], words: &mut [u8], c: Call) -> i32
-    ensures { Calls (CallEvent c) tables.old words.old [] result tables.new words.new [] }
+    ensures { Calls c tables.old words.old [] result tables.new words.new [] }
 {
     vradomil_call(
         tables, words, c.process, c.index, c.op, c.uaddr, c.val, c.flag, c.timeout, c.uaddr2,
@@ -29,50 +24,11 @@ fn pass_call(tables: &mut [u8], words: &mut [u8], c: Call) -> i32
 }
 
 fn pass_call_report(tables: &mut [u8], words: &mut [u8], c: Call, report: &mut [u8]) -> i32
-    ensures { Calls (CallEvent c) tables.old words.old report.old result tables.new words.new report.new }
+    ensures { Calls c tables.old words.old report.old result tables.new words.new report.new }
 {
     vradomil_call_report(
         tables, words, c.process, c.index, c.op, c.uaddr, c.val, c.flag, c.timeout, c.uaddr2,
         c.val3, report,
-    )
-}
-
-fn pass_wait(tables: &mut [u8], words: &mut [u8], x: OwnerWait) -> i32
-    ensures { Calls (OwnerWaitEvent x) tables.old words.old [] result tables.new words.new [] }
-{
-    vradomil_owner_wait(
-        tables, words, x.process, x.index, x.uaddr, x.val, x.flag, x.deadline, x.owner,
-    )
-}
-
-fn pass_wait_report(tables: &mut [u8], words: &mut [u8], x: OwnerWait, report: &mut [u8]) -> i32
-    ensures { Calls (OwnerWaitEvent x) tables.old words.old report.old result tables.new words.new report.new }
-{
-    vradomil_owner_wait_report(
-        tables, words, x.process, x.index, x.uaddr, x.val, x.flag, x.deadline, x.owner, report,
-    )
-}
-
-fn pass_requeue(tables: &mut [u8], words: &mut [u8], x: OwnerRequeue) -> i32
-    ensures { Calls (OwnerRequeueEvent x) tables.old words.old [] result tables.new words.new [] }
-{
-    vradomil_owner_requeue(
-        tables, words, x.process, x.index, x.uaddr, x.cap, x.val, x.uaddr2, x.cap2, x.owner,
-        x.single,
-    )
-}
-
-fn pass_requeue_report(
-    tables: &mut [u8],
-    words: &mut [u8],
-    x: OwnerRequeue,
-    report: &mut [u8],
-) -> i32
-    ensures { Calls (OwnerRequeueEvent x) tables.old words.old report.old result tables.new words.new report.new }
-{
-    vradomil_owner_requeue_report(
-        tables, words, x.process, x.index, x.uaddr, x.cap, x.val, x.uaddr2, x.cap2, x.owner,
-        x.single, report,
     )
 }
 
@@ -113,30 +69,6 @@ pub fn pass(tables: &mut [u8], words: &mut [u8], e: Event) -> i64
             let r = vradomil_set_priority(tables, words, process, index, priority);
             r as i64
         }
-        Event::OwnerWait(x) => {
-            let r = pass_wait(tables, words, x);
-            r as i64
-        }
-        Event::OwnerWake {
-            process,
-            index,
-            uaddr,
-        } => {
-            let r = vradomil_wake_single_owner(tables, words, process, index, uaddr);
-            r as i64
-        }
-        Event::OwnerRequeue(x) => {
-            let r = pass_requeue(tables, words, x);
-            r as i64
-        }
-        Event::OwnerQuery {
-            process,
-            index,
-            uaddr,
-        } => {
-            let r = vradomil_get_owner(tables, words, process, index, uaddr);
-            r as i64
-        }
     }
 }
 
@@ -175,30 +107,6 @@ pub fn pass_report(tables: &mut [u8], words: &mut [u8], e: Event, report: &mut [
             priority,
         } => {
             let r = vradomil_set_priority_report(tables, words, process, index, priority, report);
-            r as i64
-        }
-        Event::OwnerWait(x) => {
-            let r = pass_wait_report(tables, words, x, report);
-            r as i64
-        }
-        Event::OwnerWake {
-            process,
-            index,
-            uaddr,
-        } => {
-            let r = vradomil_wake_single_owner_report(tables, words, process, index, uaddr, report);
-            r as i64
-        }
-        Event::OwnerRequeue(x) => {
-            let r = pass_requeue_report(tables, words, x, report);
-            r as i64
-        }
-        Event::OwnerQuery {
-            process,
-            index,
-            uaddr,
-        } => {
-            let r = vradomil_get_owner_report(tables, words, process, index, uaddr, report);
             r as i64
         }
     }

@@ -1,19 +1,12 @@
 -- What the kernel's functions answer, beside what the rules say of the event.
-use Rattle.std.specs.Prelude.{◌≡◌, List, ◌++◌, ℕ}
+use Rattle.std.specs.Prelude.{◌≡◌, List, ℕ}
 use Rattle.tables.specs.declared.State.{State}
-use Rattle.rules.specs.declared.event.Call.{Call}
-use Rattle.rules.specs.declared.event.Owning.{Owning}
 use Rattle.rules.specs.declared.event.Event.{Event}
 use Rattle.rules.specs.declared.answer.Answered.{Answered}
-use Rattle.rules.specs.Answers.{first, Outcome, judged, answered, answer_numbers}
-use Rattle.rules.specs.Calls.{first_rows, asked_rows}
+use Rattle.rules.specs.Answers.{answered, answer_numbers}
 use Rattle.rules.specs.Numbers.{numbers_of}
-use Rattle.rules.specs.Events.{performed, step}
-use Rattle.tables.specs.Tables.{World, world}
-
--- What a call is answered, and what it leaves, that says this of owners.
-abbrev pub asked : Call → Owning → World → Outcome
-asked c o w = judged (first (first_rows w ++ asked_rows c o w)) (performed c o w) w
+use Rattle.rules.specs.Events.{step}
+use Rattle.tables.specs.Tables.{world}
 
 -- The answer, the whole state and every word afterwards are those of the rules.
 pub record Follows (e : Event) (s : State) (before : List ℕ) (r : Answered) (after : List ℕ) : Type 0 where

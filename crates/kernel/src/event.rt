@@ -5,9 +5,10 @@ ghost use Rattle.rules.specs.declared.event.Event.TheVariants.{Store, Clock, Int
 ghost use Rattle.rules.specs.Events.{waiting_set, panel};
 ghost use Rattle.kernel.specs.Follows.{Follows};
 
-use crate::call::{call, owner_query, owner_requeue, owner_wait, owner_wake};
+use crate::call::call;
+use crate::refused;
 use commands::{thread_index, word_index};
-use effects::{counted, only_if, refused};
+use effects::{counted, only_if};
 use refusals::{of_clock, of_interrupt, of_priority, of_store};
 use rules::answer::{Answer, Answered, Panel, Verdict};
 use rules::event::Event;
@@ -141,17 +142,5 @@ pub fn apply(s: State, words: &mut [u32], e: Event) -> Answered
             index,
             priority,
         } => set_priority(s, words, process, index, priority),
-        Event::OwnerWait(x) => owner_wait(s, words, x),
-        Event::OwnerWake {
-            process,
-            index,
-            uaddr,
-        } => owner_wake(s, words, process, index, uaddr),
-        Event::OwnerRequeue(x) => owner_requeue(s, words, x),
-        Event::OwnerQuery {
-            process,
-            index,
-            uaddr,
-        } => owner_query(s, words, process, index, uaddr),
     }
 }

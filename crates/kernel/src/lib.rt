@@ -1,3 +1,19 @@
 // Kernel: the code of every event, proved equal to the rules. It stands on refusals, effects and tables.
+ghost use Rattle.std.specs.Prelude.{◌≡◌};
+ghost use Rattle.rules.specs.declared.answer.Answer.TheVariants.{Refused};
+
 pub mod call;
 pub mod event;
+
+use rules::answer::{Answer, Answered, Refusal};
+use tables::State;
+
+// A refusal: the tables are handed back as they came.
+fn refused(x: Refusal, s: State) -> Answered
+    ensures { result ≡ record { answer = Refused x; state = s } }
+{
+    Answered {
+        answer: Answer::Refused(x),
+        state: s,
+    }
+}

@@ -12,32 +12,30 @@ use Rattle.lists.specs.Lists.{every_below, count_below}
 use Rattle.lists.specs.LittleEndian.{Bytes}
 use Rattle.lists.proofs.Tests.{cases, and_left, and_right}
 use Rattle.lists.proofs.Count.{every_below_ext, every_below_and, count_below_ext}
-use Rattle.lists.proofs.Tabulate.{all_tabulate}
+use Rattle.lists.proofs.Tabulate.{length_tabulate, all_tabulate}
 use Rattle.tables.specs.declared.Thread.{Thread}
-use Rattle.tables.specs.Sizes.{threads, no_owner}
+use Rattle.tables.specs.Sizes.{threads}
 use Rattle.tables.specs.Editions.{present}
-use Rattle.tables.specs.Tables.{thread_of, arrivals, sizes_ok, priority_ok, record_ok, records_ok, tail_ok, list_in, tables_in, tables_ok}
-use Rattle.tables.specs.Steps.{placed, owners_agree}
+use Rattle.tables.specs.Tables.{thread_of, arrivals, sizes_ok, priority_ok, record_ok, records_ok, tail_ok, tables_in, tables_ok}
+use Rattle.tables.specs.Steps.{placed}
 use Rattle.arrivals.specs.Arrivals.{PlacedIn}
 use Rattle.tables.proofs.Checked.{checked}
 use Rattle.layout.specs.Layout.{max_last, thread_at, state_at, tables_at, tables_size, flags_ok, waiting_at, timed_at, last_at, list_at}
-use Rattle.layout.specs.Check.{flags_fit, waits, agrees, place_ok, place_fits, time_ok, time_fits, owners_fit, Held, Checked}
+use Rattle.layout.specs.Check.{flags_fit, waits, agrees, place_ok, place_fits, time_ok, time_fits, Held, Checked}
 use Rattle.layout.proofs.Reading.{thread_read}
 use Rattle.layout.proofs.Exact.{tables_exact}
-use Rattle.layout.proofs.Rows.{records_read}
-use Rattle.layout.proofs.Owned.{free_fits, owners_split, owners_same}
 
--- the rules of a record's sleep are one, where none but a sleeper has a deadline
-two_rules : (w t a b d z u : Bool) → ((not t || w) && cond w a b && cond t d z && (w || u)) ≡ cond w (a && cond t d z) (b && not t && z && u)
-two_rules true true a b d z u = and-true (a && d)
-two_rules true false a b d z u = and-true (a && z)
-two_rules false true a b d z u = ap (λ x. x && z && u) (sym (and-false b))
-two_rules false false a b d z u = ap (λ x. x && z && u) (sym (and-true b))
+-- the two rules of a record's sleep are one, where none but a sleeper has a deadline
+two_rules : (w t a b d z : Bool) → ((not t || w) && cond w a b && cond t d z) ≡ cond w (a && cond t d z) (b && not t && z)
+two_rules true true a b d z = refl
+two_rules true false a b d z = refl
+two_rules false true a b d z = ap (λ x. x && z) (sym (and-false b))
+two_rules false false a b d z = ap (λ x. x && z) (sym (and-true b))
 
 record_rules : (now : ℕ) (r : Thread)
-    → ((not r.timed || r.waiting) && place_ok r.waiting r.uaddr r.bitset && time_ok now r.timed r.deadline && (r.waiting || eqb r.owner no_owner) && priority_ok r) ≡ record_ok now r
+    → ((not r.timed || r.waiting) && place_ok r.waiting r.uaddr r.bitset && time_ok now r.timed r.deadline && priority_ok r) ≡ record_ok now r
 unfolding record_ok
-record_rules now r = ap (◌&& priority_ok r) (two_rules r.waiting r.timed _ _ _ _ _)
+record_rules now r = ap (◌&& priority_ok r) (two_rules r.waiting r.timed _ _ _ _)
 
 -- a byte that is at most another, which is 0 or 1
 flag_rules : (w t l : ℕ) → (leb w 1 && leb t w && leb l max_last) ≡ (leb w 1 && leb t 1 && leb l max_last && (not (eqb t 1) || eqb w 1))
@@ -48,53 +46,46 @@ flag_rules (suc zero) t l = sym (ap (λ b. leb t 1 && leb l max_last && b) (or-t
 flag_rules (suc (suc w)) t l = rw (lt-leb (suc (suc w)) 1 (omega arith))
 
 -- the priority is tested with the flags, and is the last rule of a record
-and_move : (f q n p t u : Bool) → (f && q && n && p && t && u) ≡ (f && (q && p && t && u && n))
-and_move f q n p t u = simp and_assoc (ap (λ x. f && (q && x)) (and_comm n (p && (t && u)) ∙ simp and_assoc))
+and_move : (f q n p t : Bool) → (f && q && n && p && t) ≡ (f && (q && p && t && n))
+and_move f q n p t = simp and_assoc (ap (λ x. f && (q && x)) (and_comm n (p && t) ∙ and_assoc p t n))
 
--- the passes in their order; f and r are the rules of the bytes' form and of the records, v and w those of owners
-regroup : (o t p q g m n u v f r w : Bool) → (g && p && q && u) ≡ (f && r) → (r ≡ true → v ≡ w)
-    → (o && t && p && q && (g && m && n) && (u && v)) ≡ (f && (o && t && (m && r && n) && w))
-regroup false t p q g m n u v f r w e h = sym (and-false f)
-regroup true false p q g m n u v f r w e h = sym (and-false f)
-regroup true true p q g false n u v f r w e h = rw (and-false g, and-false (p && q)) (sym (and-false f))
-regroup true true p q g true false u v f r w e h = simp and-false (ap (◌&& (u && v)) (and-false (p && q)))
-regroup true true p q g true true u v f r w e h =
-    simp and-true (ap (◌&& (u && v)) (and_comm (p && q) g ∙ sym (and_assoc g p q)) ∙ sym (and_assoc (g && p && q) u v) ∙ ap (◌&& v) e ∙ last f r h)
-  where
-    last : (f r : Bool) → (r ≡ true → v ≡ w) → (f && r && v) ≡ (f && (r && w))
-    last f true h = rw (and-true f) (ap (f &&◌) (h refl))
-    last f false h = rw (and-false f)
+-- the passes in their order, the last of which tests three things; f and r are the rules of the bytes' form and of the records
+regroup : (o t p q g m n f r : Bool) → (g && p && q) ≡ (f && r) → (o && t && p && q && (g && m && n)) ≡ (f && (o && t && (m && r && n)))
+regroup false t p q g m n f r e = sym (and-false f)
+regroup true false p q g m n f r e = sym (and-false f)
+regroup true true p q g true true f r e = simp and-true (and_comm (p && q) g ∙ sym (and_assoc g p q) ∙ e)
+regroup true true p q g true false f r e = simp and-false (and-false (p && q))
+regroup true true p q g false n f r e = rw (and-false g) (and-false (p && q) ∙ sym (and-false f))
 
 -- bytes of another length stand for no tables
 pub wrong_size : (b : List ℕ) → (length b ≡ tables_size → ⊥) → tables_ok (tables_at b) ≡ false
-unfolding tables_at tables_in list_in
+unfolding tables_at tables_in
 wrong_size b h = rw (ne_eqb (length b) tables_size h)
 
 module _ (b : List ℕ) (size : length b ≡ tables_size) where
   whole : tables_ok (tables_at b) ≡ (every_below threads (flags_ok b) && tables_ok (state_at b))
   unfolding tables_at
-  whole = rw (eq-eqb (length b) tables_size size) (cases (every_below threads (flags_ok b)) (λ e. rw e) (λ e. rw e (unfold tables_in list_in in refl)))
+  whole = rw (eq-eqb (length b) tables_size size) (cases (every_below threads (flags_ok b)) (λ e. rw e) (λ e. rw e (unfold tables_in in refl)))
 
   -- a count above the number of threads
   pub wrong_count : threads < (state_at b).count → tables_ok (tables_at b) ≡ false
   wrong_count h =
-      let broken : tables_ok (state_at b) ≡ false = unfold tables_in list_in in rw (lt-leb (state_at b).count threads h, and-false (sizes_ok present (state_at b))) in
+      let broken : tables_ok (state_at b) ≡ false = unfold tables_in in rw (lt-leb (state_at b).count threads h, and-false (sizes_ok present (state_at b))) in
       whole ∙ rw broken (and-false (every_below threads (flags_ok b)))
 
-  rows : every_below threads (flags_fit b) && every_below threads (place_fits b) && every_below threads (time_fits (state_at b).clock b) && every_below threads (free_fits b)
+  rows : every_below threads (flags_fit b) && every_below threads (place_fits b) && every_below threads (time_fits (state_at b).clock b)
       ≡ (every_below threads (flags_ok b) && records_ok (state_at b))
   rows =
       let now = (state_at b).clock in
       let r = thread_at b in
       let records : records_ok (state_at b) ≡ every_below threads (λ i. record_ok now (r i)) = unfold state_at in all_tabulate (record_ok now) threads r in
-      let row : (i : ℕ) → i < threads → (flags_fit b i && place_fits b i && time_fits now b i && free_fits b i) ≡ (flags_ok b i && record_ok now (r i)) =
-      λ i l. ap (λ x. x && priority_ok (r i) && place_fits b i && time_fits now b i && free_fits b i) (flag_rules (get_or b (waiting_at + i) 0) (get_or b (timed_at + i) 0) (get_or b (last_at + i) 0))
-      ∙ and_move (flags_ok b i) (not (r i).timed || (r i).waiting) (priority_ok (r i)) (place_fits b i) (time_fits now b i) (free_fits b i)
+      let row : (i : ℕ) → i < threads → (flags_fit b i && place_fits b i && time_fits now b i) ≡ (flags_ok b i && record_ok now (r i)) =
+      λ i l. ap (λ x. x && priority_ok (r i) && place_fits b i && time_fits now b i) (flag_rules (get_or b (waiting_at + i) 0) (get_or b (timed_at + i) 0) (get_or b (last_at + i) 0))
+      ∙ and_move (flags_ok b i) (not (r i).timed || (r i).waiting) (priority_ok (r i)) (place_fits b i) (time_fits now b i)
       ∙ ap (λ x. flags_ok b i && x) (record_rules now (r i)) in
-      sym (every_below_and threads (λ i. flags_fit b i && place_fits b i && time_fits now b i) (free_fits b)
-      ∙ ap (λ x. x && every_below threads (free_fits b)) (every_below_and threads (λ i. flags_fit b i && place_fits b i) (time_fits now b)
-      ∙ ap (λ x. x && every_below threads (time_fits now b)) (every_below_and threads (flags_fit b) (place_fits b))))
-      ∙ every_below_ext threads (λ i. flags_fit b i && place_fits b i && time_fits now b i && free_fits b i) (λ i. flags_ok b i && record_ok now (r i)) row
+      sym (every_below_and threads (λ i. flags_fit b i && place_fits b i) (time_fits now b)
+      ∙ ap (λ x. x && every_below threads (time_fits now b)) (every_below_and threads (flags_fit b) (place_fits b)))
+      ∙ every_below_ext threads (λ i. flags_fit b i && place_fits b i && time_fits now b i) (λ i. flags_ok b i && record_ok now (r i)) row
       ∙ every_below_and threads (flags_ok b) (λ i. record_ok now (r i))
       ∙ ap (λ x. every_below threads (flags_ok b) && x) (sym records)
 
@@ -114,12 +105,11 @@ module _ (b : List ℕ) (size : length b ≡ tables_size) where
       }
 
   -- the passes, in their order
-  module _ (low tail places times flags owners : Bool) (place : List ℕ) (few : (state_at b).count ≤ threads)
+  module _ (low tail places times flags : Bool) (place : List ℕ) (few : (state_at b).count ≤ threads)
       (list : PlacedIn (arrivals (state_at b)) low place) (behind : tail ≡ tail_ok (state_at b)) (sleeps : places ≡ every_below threads (place_fits b))
       (kept : times ≡ every_below threads (time_fits (state_at b).clock b))
-      (fit : flags ≡ (every_below threads (λ i. flags_fit b i && agrees place b i) && eqb (count_below threads (waits b)) (state_at b).count))
-      (own : owners ≡ owners_fit b) where
-    passes : (low && tail && places && times && flags && owners) ≡ tables_ok (tables_at b)
+      (fit : flags ≡ (every_below threads (λ i. flags_fit b i && agrees place b i) && eqb (count_below threads (waits b)) (state_at b).count)) where
+    passes : (low && tail && places && times && flags) ≡ tables_ok (tables_at b)
     passes =
         let s = state_at b in
         let listed = every_below threads (agrees place b) in
@@ -130,20 +120,19 @@ module _ (b : List ℕ) (size : length b ≡ tables_size) where
         let number : count_below threads (λ t. (thread_of s t).waiting) ≡ count_below threads (waits b) =
         count_below_ext threads (λ t. (thread_of s t).waiting) (waits b) (λ t l. ap (λ (r : Thread). r.waiting) (thread_read b t l)) in
         let entries : length s.list ≡ threads = unfold state_at in length-take-le threads (drop list_at b) (rw length-drop (omega (arith, size))) in
-        let records = records_read b in
-        let all = checked s low tail (listed && records_ok s && counted) (owners_agree s) place records entries few list behind
-        (λ i. sym same i && records_ok s && eqb (sym number i) s.count) refl in
-        (λ i. low && tail && sleeps i && kept i && (fit ∙ ap (◌&& counted) (every_below_and threads (flags_fit b) (agrees place b))) i && (own ∙ owners_split b) i)
+        let records : length s.threads ≡ threads = unfold state_at in length_tabulate threads (thread_at b) in
+        let all = checked s low tail (listed && records_ok s && counted) place records entries few list behind
+        (λ i. sym same i && records_ok s && eqb (sym number i) s.count) in
+        (λ i. low && tail && sleeps i && kept i && (fit ∙ ap (◌&& counted) (every_below_and threads (flags_fit b) (agrees place b))) i)
         ∙ regroup low tail (every_below threads (place_fits b)) (every_below threads (time_fits s.clock b)) (every_below threads (flags_fit b)) listed counted
-        (every_below threads (free_fits b)) _ (every_below threads (flags_ok b)) (records_ok s) (owners_agree s) rows (owners_same s records)
+        (every_below threads (flags_ok b)) (records_ok s) rows
         ∙ ap (λ x. every_below threads (flags_ok b) && x) all
         ∙ sym whole
 
-    pub told : Bytes b → Checked b (record { ok = low && tail && places && times && flags && owners; place = place })
+    pub told : Bytes b → Checked b (record { ok = low && tail && places && times && flags; place = place })
     told h =
-        let named : (low && tail && places && times && flags && owners) ≡ true → low ≡ true =
-        λ e. and_left low tail (and_left (low && tail) places (and_left (low && tail && places) times (and_left (low && tail && places && times) flags
-        (and_left (low && tail && places && times && flags) owners e)))) in
+        let named : (low && tail && places && times && flags) ≡ true → low ≡ true =
+        λ e. and_left low tail (and_left (low && tail) places (and_left (low && tail && places) times (and_left (low && tail && places && times) flags e))) in
         record {
           answer = passes;
           held = λ e. held h (sym passes ∙ e);

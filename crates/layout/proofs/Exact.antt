@@ -16,7 +16,7 @@ use Rattle.tables.specs.declared.Thread.{Thread}
 use Rattle.tables.specs.declared.LastAnswer.{LastAnswer}
 use Rattle.tables.specs.declared.LastAnswer.TheVariants.{NoneYet, Woken, TimedOut, Interrupted}
 use Rattle.tables.specs.Sizes.{threads, word_bytes}
-use Rattle.layout.specs.Layout.{time_bytes, column, Field, thread_fields, columns, thread_at, state_at, tables_bytes, tables_size, last_byte, max_last, last_of, waiting_byte, timed_byte, flags_ok, clock_at, count_at, list_at, waiting_at, timed_at, last_at, uaddr_at, bitset_at, deadline_at, priority_at, owner_at, words_bytes, words_of}
+use Rattle.layout.specs.Layout.{time_bytes, column, Field, thread_fields, columns, thread_at, state_at, tables_bytes, tables_size, last_byte, max_last, last_of, waiting_byte, timed_byte, flags_ok, clock_at, count_at, list_at, waiting_at, timed_at, last_at, uaddr_at, bitset_at, deadline_at, priority_at, words_bytes, words_of}
 use Rattle.layout.proofs.Columns.{exact, column_tabulate, cuts, flatten_cuts}
 
 -- the sizes of the columns
@@ -91,8 +91,7 @@ module _ (b : List ℕ) (size : length b ≡ tables_size) (flags : every_below t
       let bitset = number_column word_bytes (λ r. r.bitset) bitset_at (λ i l. omega arith) (λ i. refl) in
       let deadline = number_column time_bytes (λ r. r.deadline) deadline_at (λ i l. omega arith) (λ i. refl) in
       let priority = byte_column (λ r. r.priority) priority_at (omega arith) (λ i l. refl) in
-      let owner = byte_column (λ r. r.owner) owner_at (omega arith) (λ i l. refl) in
-      λ j. clock j ∷ count j ∷ take threads (drop list_at b) ∷ waiting j ∷ timed j ∷ last j ∷ uaddr j ∷ bitset j ∷ deadline j ∷ priority j ∷ owner j ∷ []
+      λ j. clock j ∷ count j ∷ take threads (drop list_at b) ∷ waiting j ∷ timed j ∷ last j ∷ uaddr j ∷ bitset j ∷ deadline j ∷ priority j ∷ []
 
   pub tables_exact : b ≡ tables_bytes (state_at b)
   unfolding tables_bytes

@@ -3,7 +3,5 @@ pub mod Reading
 pub mod Exact
 pub mod Gathering
 pub mod Listing
-pub mod Rows
-pub mod Owned
 pub mod Checks
 pub mod Theorems

@@ -53,7 +53,6 @@ thread_fields =
     ∷ field word_bytes (λ r. r.bitset)
     ∷ field time_bytes (λ r. r.deadline)
     ∷ field 1 (λ r. r.priority)
-    ∷ field 1 (λ r. r.owner)
     ∷ []
 
 -- the tables in columns: clock, count, list, then a column for each field of the records
@@ -99,11 +98,8 @@ deadline_at = bitset_at + word_bytes * threads
 abbrev pub priority_at : ℕ
 priority_at = deadline_at + time_bytes * threads
 
-abbrev pub owner_at : ℕ
-owner_at = priority_at + threads
-
 abbrev pub tables_size : ℕ
-tables_size = owner_at + threads
+tables_size = priority_at + threads
 
 abbrev pub last_of : ℕ → LastAnswer
 last_of n = cond (eqb n 0) NoneYet (cond (eqb n 1) Woken (cond (eqb n 2) TimedOut Interrupted))
@@ -119,7 +115,6 @@ thread_at b i =
       deadline = number_at time_bytes (deadline_at + time_bytes * i) b;
       last = last_of (get_or b (last_at + i) 0);
       priority = get_or b (priority_at + i) 0;
-      owner = get_or b (owner_at + i) 0;
     }
 
 unfoldable pub state_at : List ℕ → State

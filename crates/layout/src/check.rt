@@ -6,7 +6,6 @@ ghost use Rattle.arrivals.specs.Arrivals.{PlacedIn};
 ghost use Rattle.layout.specs.Layout.{list_at, tables_size};
 ghost use Rattle.layout.specs.Check.{flags_fit, agrees, waits, place_fits, time_ok, time_fits, Checked};
 
-use crate::owners::owners_ok;
 use crate::{
     BITSET_AT, CLOCK_AT, COUNT_AT, DEADLINE_AT, LAST_AT, LIST_AT, PRIORITY_AT, TABLES_SIZE,
     TIME_SIZE, TIMED_AT, UADDR_AT, WAITING_AT, WORD_SIZE,
@@ -179,9 +178,8 @@ pub fn sound(b: &[u8]) -> Seen
     let times = times_ok(b, clock);
     let place = found.place;
     let flags = flags_ok(b, place, count);
-    let owners = owners_ok(b);
     Seen {
-        ok: found.low & tail & places & times & flags & owners,
+        ok: found.low & tail & places & times & flags,
         place: place,
     }
 }

@@ -1,6 +1,5 @@
 // Layout: the tables as bytes, read and checked where they lie. It stands on tables and numbers.
 pub mod check;
-mod owners;
 pub mod read;
 
 use tables::{THREADS, WORD_BYTES};
@@ -31,6 +30,4 @@ pub const DEADLINE_AT: usize = BITSET_AT + WORD_SIZE * THREADS;
 
 pub const PRIORITY_AT: usize = DEADLINE_AT + TIME_SIZE * THREADS;
 
-pub const OWNER_AT: usize = PRIORITY_AT + THREADS;
-
-pub const TABLES_SIZE: usize = OWNER_AT + THREADS;
+pub const TABLES_SIZE: usize = PRIORITY_AT + THREADS;

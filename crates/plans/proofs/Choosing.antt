@@ -1,20 +1,16 @@
--- Threads written down one by one: the first n of a table, and m from a place on; and read again.
-use mathlib.Core.Path.{◌≡◌, refl, sym, ap, ◌∙◌}
-use mathlib.Core.Bool.{Bool, true, false, not, cond, ◌&&◌, ◌||◌}
-use mathlib.Core.List.{List, [], ◌∷◌, ◌++◌}
-use Prim.Native.Nat.{ℕ, zero, suc, ◌+◌, ◌-◌, ◌%◌, ◌≤◌, ◌<◌}
+-- Threads written down one by one: the first n of a table, and m from a place on.
+use mathlib.Core.Path.{◌≡◌, sym, ap, ◌∙◌}
+use mathlib.Core.Bool.{cond}
+use mathlib.Core.List.{List, ◌++◌}
+use Prim.Native.Nat.{ℕ, ◌+◌, ◌-◌, ◌≤◌, ◌<◌}
 use native.Mathlib.Omega.{arith}
 use lib.ListN.{length, take, get_or, length-append, get_or-append}
 use lib.Seq.{get_or-take, get_or-append-add, ext_get_or, length-take-le}
-use lib.Dec.{eqb, ltb}
+use lib.Dec.{ltb}
 use borrow.Author.Tests.{ltb-true, ltb-false}
-use Rattle.lists.specs.Lists.{elem, tabulate}
-use Rattle.lists.proofs.Tests.{cases, eqb_sym}
-use Rattle.lists.proofs.Loops.{take_next, elem_snoc}
+use Rattle.lists.specs.Lists.{tabulate}
+use Rattle.lists.proofs.Tests.{cases}
 use Rattle.lists.proofs.Tabulate.{length_tabulate, get_d_tabulate}
-use Rattle.tables.specs.Sizes.{threads_per_process}
-use Rattle.tables.specs.Editions.{present}
-use Rattle.rules.specs.Calls.{heir_in}
 
 pub chosen_all : (n from m : ℕ) (f : ℕ → ℕ) (who : List ℕ) → n + m ≤ length who
     → ((t : ℕ) → t < n + m → get_or who t 0 ≡ f (cond (ltb t n) t (from + (t - n)))) → take (n + m) who ≡ tabulate n f ++ tabulate m (λ k. f (from + k))
@@ -43,20 +39,3 @@ chosen_all n from m f who fits is = ext_get_or 0 (take (n + m) who) (one ++ two)
         let next = ltb-false t n e in
         let there : t ≡ length one + (t - n) = omega (arith, length_tabulate n f) in
         rw e (sym (ap (λ j. get_or (one ++ two) j 0) there ∙ get_or-append-add one two (t - n) 0 ∙ get_d_tabulate m (λ k. f (from + k)) (t - n) 0 (omega arith))))
-
--- the first of them, by its index
-pub first_index : (n : ℕ) (l : List ℕ) → 0 < n → 0 < length l → heir_in present (take n l) ≡ get_or l 0 0 % threads_per_process
-first_index zero l h some = absurd (omega arith)
-first_index (suc n) [] h some = absurd (omega arith)
-first_index (suc n) (x ∷ xs) h some = refl
-
-neither : (a b : Bool) → (not a && not b) ≡ not (a || b)
-neither true b = refl
-neither false b = refl
-
--- a thread that is none of the first k, and is not the next
-pub none_next : (t : ℕ) (l : List ℕ) (k : ℕ) (none : Bool) → k < length l → none ≡ not (elem t (take k l))
-    → (none && not (eqb (get_or l k 0) t)) ≡ not (elem t (take (k + 1) l))
-none_next t l k none h is =
-    (λ i. is i && not (eqb_sym (get_or l k 0) t i)) ∙ neither (elem t (take k l)) (eqb t (get_or l k 0))
-    ∙ ap not (sym (elem_snoc t (take k l) (get_or l k 0)) ∙ ap (elem t) (sym (take_next l k 0 h)))

@@ -2,7 +2,6 @@ pub mod Uses
 pub mod Parts
 pub mod Choosing
 pub mod Decided
-pub mod Owns
 pub mod Planned
 pub mod Carried
 pub mod Theorems

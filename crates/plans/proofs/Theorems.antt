@@ -12,17 +12,16 @@ use Rattle.lists.specs.Lists.{elem}
 use Rattle.lists.proofs.Occurs.{occurs, distinct_occurs, elem_all}
 use Rattle.tables.specs.declared.State.{State}
 use Rattle.tables.specs.Sizes.{processes, threads_per_process, bytes_per_process, memory_words}
-use Rattle.tables.specs.Tables.{World, process_of, thread_of, arrivals, is_owner, aligned, tables_ok, set_owner, write_word}
+use Rattle.tables.specs.Tables.{World, process_of, thread_of, arrivals, tables_ok, write_word}
 use Rattle.tables.proofs.Sound.{tables_sound, listed_waiting}
 use Rattle.rules.specs.declared.event.Call.{Call}
-use Rattle.rules.specs.declared.event.Owning.{Owning}
 use Rattle.rules.specs.Commands.{command_of, is_unknown, uses}
-use Rattle.rules.specs.Calls.{caller, old_word, call_effect, would_own}
+use Rattle.rules.specs.Calls.{caller, old_word, call_effect}
 use Rattle.views.specs.declared.View.{View}
 use Rattle.views.specs.Views.{Views}
 use Rattle.plans.specs.declared.Plan.{Plan}
 use Rattle.plans.specs.Ready.{Granted}
-use Rattle.plans.specs.Plans.{released_of, moved_of, written, owned_by, carried, Planned, PlannedSleep, PlannedTake}
+use Rattle.plans.specs.Plans.{released_of, moved_of, written, carried, Planned, PlannedSleep, PlannedTake}
 
 -- whom a plan takes: those that run, and behind them those that move
 pub taken_are : (d : Plan) → take (d.released + d.moved) d.taken ≡ released_of d ++ moved_of d
@@ -41,20 +40,9 @@ word_written c d w writes = rw writes
 pub word_kept : (c : Call) (d : Plan) (w : World) → d.writes ≡ false → written c d w ≡ w
 word_kept c d w keeps = rw keeps
 
--- the owners of the two words, or of the first alone
-pub owners_set : (c : Call) (d : Plan) (s : State) → d.second ≡ true
-    → owned_by c d s ≡ set_owner c.process c.uaddr2 d.owner2 (set_owner c.process c.uaddr d.owner s)
-owners_set c d s both = rw both
-
-pub owner_set : (c : Call) (d : Plan) (s : State) → d.second ≡ false → owned_by c d s ≡ set_owner c.process c.uaddr d.owner s
-owner_set c d s alone = rw alone
-
-module _ (c : Call) (o : Owning) (w : World) (d : Plan) (is : Planned c o w d) where
-  pub plan_leaves : carried c d w ≡ call_effect (command_of c.op) c o w
+module _ (c : Call) (w : World) (d : Plan) (is : Planned c w d) where
+  pub plan_leaves : carried c d w ≡ call_effect (command_of c.op) c w
   plan_leaves = sym is.effect
-
-  pub plan_tells : d.owns ≡ would_own c o w
-  plan_tells = is.owns
 
   pub plan_takes_sleepers : tables_ok w.state ≡ true → (t : ℕ) → elem t (take (d.released + d.moved) d.taken) ≡ true → (thread_of w.state t).waiting ≡ true
   plan_takes_sleepers ok t e =
@@ -77,28 +65,23 @@ module _ (c : Call) (o : Owning) (w : World) (d : Plan) (is : Planned c o w d) w
   pub plan_writes_second : d.writes ≡ true → (uses (command_of c.op)).second ≡ true
   plan_writes_second = is.second
 
--- the plan of a wait that is made on the view of its process, at the clock's time
-pub wait_planned : (c : Call) (o : Owning) (v : View) (w : World) (d : Plan) → PlannedSleep c o v w.state.clock d → Granted c o w.state w.words
-    → (uses (command_of c.op)).deadline ≡ true → Views c.process w.state v → carried c d w ≡ call_effect (command_of c.op) c o w
-wait_planned c o v w d is granted waits views = sym (is w granted waits views refl).effect
+-- the plan of a wait that is made at the clock's time
+pub wait_planned : (c : Call) (w : World) (d : Plan) → PlannedSleep c w.state.clock d → Granted c w.state w.words → (uses (command_of c.op)).deadline ≡ true
+    → carried c d w ≡ call_effect (command_of c.op) c w
+wait_planned c w d is granted waits = sym (is w granted waits refl).effect
 
 -- the plan of any other call that is made on the view of its process and the word at its second address
-pub others_planned : (c : Call) (o : Owning) (v : View) (w : World) (d : Plan) → PlannedTake c o v (old_word c w) d → Granted c o w.state w.words
-    → (uses (command_of c.op)).deadline ≡ false → Views c.process w.state v → carried c d w ≡ call_effect (command_of c.op) c o w
-others_planned c o v w d is granted goes views = sym (is w granted goes views (λ _. refl)).effect
+pub others_planned : (c : Call) (v : View) (w : World) (d : Plan) → PlannedTake c v (old_word c w) d → Granted c w.state w.words
+    → (uses (command_of c.op)).deadline ≡ false → Views c.process w.state v → carried c d w ≡ call_effect (command_of c.op) c w
+others_planned c v w d is granted goes views = sym (is w granted goes views (λ _. refl)).effect
 
--- all that is asked of a call, of what it says of owners, of its tables and its words
-pub granted_where : (c : Call) (o : Owning) (s : State) (words : List ℕ) → tables_ok s ≡ true → c.process < processes → c.index < threads_per_process → (thread_of s (caller c)).waiting ≡ false
-    → is_unknown (command_of c.op) ≡ false → length words ≡ memory_words → ((uses (command_of c.op)).second ≡ true → aligned c.uaddr2 ≡ true)
-    → ((uses (command_of c.op)).second ≡ true → c.uaddr2 < bytes_per_process) → ((uses (command_of c.op)).moves ≡ true → eqb c.uaddr c.uaddr2 ≡ false)
-    → is_owner o.owner ≡ true → Granted c o s words
-granted_where c o s words ok process index runs known memory alignment second differ named =
+-- all that is asked of a call, its tables and its words
+pub granted_where : (c : Call) (s : State) (words : List ℕ) → tables_ok s ≡ true → c.process < processes → c.index < threads_per_process → (thread_of s (caller c)).waiting ≡ false
+    → is_unknown (command_of c.op) ≡ false → length words ≡ memory_words → ((uses (command_of c.op)).second ≡ true → c.uaddr2 < bytes_per_process) → Granted c s words
+granted_where c s words ok process index runs known memory second =
     record {
       ready = record { tables = ok; process = process; index = index; runs = runs };
       known = known;
       memory = memory;
-      alignment = alignment;
       second = second;
-      differ = differ;
-      named = named;
     }

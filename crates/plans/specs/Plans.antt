@@ -1,22 +1,20 @@
 -- What a plan leaves of the tables and the words, and when it is the plan of a call: where it leaves what the rules say.
-use Rattle.std.specs.Prelude.{◌≡◌, Bool, true, false, not, cond, ◌&&◌, ◌||◌, List, [], ◌++◌, ℕ, ◌+◌, ◌≤◌, ◌<◌, take, drop, eqb}
+use Rattle.std.specs.Prelude.{◌≡◌, Bool, true, false, not, cond, ◌&&◌, List, [], ◌++◌, ℕ, ◌+◌, ◌≤◌, take, drop, eqb}
 use Rattle.lists.specs.Lists.{all, elem, distinct}
 use Rattle.tables.specs.declared.State.{State}
 use Rattle.tables.specs.declared.LastAnswer.TheVariants.{Woken}
 use Rattle.rules.specs.declared.event.Call.{Call}
-use Rattle.rules.specs.declared.event.Owning.{Owning}
 use Rattle.rules.specs.declared.answer.Answer.TheVariants.{Asleep, Count}
-use Rattle.tables.specs.Sizes.{processes, threads_per_process}
-use Rattle.tables.specs.Tables.{World, thread_number, process_of, arrivals, owner_of, tables_ok, asleep_at, fall_asleep, end_sleeps, move_sleeps, set_owner, write_word, with_state}
-use Rattle.rules.specs.Answers.{first, Outcome, outcome, judged}
+use Rattle.tables.specs.Sizes.{threads_per_process}
+use Rattle.tables.specs.Tables.{World, process_of, arrivals, tables_ok, asleep_at, fall_asleep, end_sleeps, move_sleeps, write_word, with_state}
+use Rattle.rules.specs.Answers.{Outcome, outcome}
 use Rattle.rules.specs.Commands.{command_of, uses}
 use Rattle.rules.specs.WakeOp.{compares}
-use Rattle.rules.specs.Calls.{caller, old_word, released, moved, released_second, owner_given, call_effect, last_rows, would_own}
+use Rattle.rules.specs.Calls.{caller, old_word, released, moved, released_second, call_effect}
 use Rattle.views.specs.declared.View.{View}
-use Rattle.views.specs.Views.{Views, sleeps_in}
+use Rattle.views.specs.Views.{Views}
 use Rattle.plans.specs.declared.Plan.{Plan}
 use Rattle.plans.specs.declared.Takes.{Takes}
-use Rattle.plans.specs.declared.Target.{Target}
 use Rattle.plans.specs.Ready.{Granted}
 
 -- the threads that run, and those that move
@@ -30,26 +28,13 @@ moved_of d = take d.moved (drop d.released d.taken)
 abbrev pub written : Call → Plan → World → World
 written c d w = cond d.writes (write_word c.process c.uaddr2 d.word w) w
 
--- the owners that a plan sets, once its threads are taken
-abbrev pub owned_by : Call → Plan → State → State
-owned_by c d s =
-    let first = set_owner c.process c.uaddr d.owner s in
-    cond d.second (set_owner c.process c.uaddr2 d.owner2 first) first
-
 -- A plan carried out: what the call is answered, and the tables and words that it leaves.
 unfoldable pub carried : Call → Plan → World → Outcome
 carried c d w =
     cond d.sleeps
-    (outcome Asleep
-    (with_state
-    (set_owner c.process c.uaddr d.owner (fall_asleep (asleep_at c.uaddr d.bitset d.timed d.deadline) (caller c) w.state))
-    w))
+    (outcome Asleep (with_state (fall_asleep (asleep_at c.uaddr d.bitset d.timed d.deadline) (caller c) w.state) w))
     (outcome (Count d.count)
-    (written c d (with_state (owned_by c d (move_sleeps c.uaddr2 (moved_of d) (end_sleeps Woken (released_of d) w.state))) w)))
-
--- What a call is answered, and what it leaves, that no row refuses but perhaps one of the last two.
-unfoldable pub decided : Call → Owning → World → Outcome
-decided c o w = judged (first (last_rows c w.state.clock (would_own c o w))) (call_effect (command_of c.op) c o w) w
+    (written c d (with_state (move_sleeps c.uaddr2 (moved_of d) (end_sleeps Woken (released_of d) w.state)) w)))
 
 -- each thread that is taken is of the process and on the list, and none is taken twice
 pub record Fits (p : ℕ) (d : Plan) (s : State) : Type 0 where
@@ -59,25 +44,22 @@ pub record Fits (p : ℕ) (d : Plan) (s : State) : Type 0 where
   pub apart : distinct (take (d.released + d.moved) d.taken) ≡ true
   pub small : d.count ≤ threads_per_process
 
--- the plan of a call that no row refuses but perhaps one of the last two: carried out, it leaves what the rules say, and it tells whether it
--- would leave a thread asleep on a word that it owns
-pub record Planned (c : Call) (o : Owning) (w : World) (d : Plan) : Type 0 where
-  pub effect : call_effect (command_of c.op) c o w ≡ carried c d w
-  pub owns : d.owns ≡ would_own c o w
+-- the plan of a call that no row refuses: carried out, it leaves what the rules say
+pub record Planned (c : Call) (w : World) (d : Plan) : Type 0 where
+  pub effect : call_effect (command_of c.op) c w ≡ carried c d w
   pub fits : Fits c.process d w.state
   pub second : d.writes ≡ true → (uses (command_of c.op)).second ≡ true
 
--- of a wait, whatever tables have the view and the clock
-abbrev pub PlannedSleep : Call → Owning → View → ℕ → Plan → Type 0
-PlannedSleep c o v now d =
-    (w : World) → Granted c o w.state w.words → (uses (command_of c.op)).deadline ≡ true → Views c.process w.state v → now ≡ w.state.clock
-    → Planned c o w d
+-- of a wait, whatever tables have the clock
+abbrev pub PlannedSleep : Call → ℕ → Plan → Type 0
+PlannedSleep c now d =
+    (w : World) → Granted c w.state w.words → (uses (command_of c.op)).deadline ≡ true → now ≡ w.state.clock → Planned c w d
 
 -- of any other call, whatever tables have the view and the word
-abbrev pub PlannedTake : Call → Owning → View → ℕ → Plan → Type 0
-PlannedTake c o v old d =
-    (w : World) → Granted c o w.state w.words → (uses (command_of c.op)).deadline ≡ false → Views c.process w.state v
-    → ((uses (command_of c.op)).second ≡ true → old ≡ old_word c w) → Planned c o w d
+abbrev pub PlannedTake : Call → View → ℕ → Plan → Type 0
+PlannedTake c v old d =
+    (w : World) → Granted c w.state w.words → (uses (command_of c.op)).deadline ≡ false → Views c.process w.state v
+    → ((uses (command_of c.op)).second ≡ true → old ≡ old_word c w) → Planned c w d
 
 -- What the functions of this crate compute on the way.
 
@@ -92,9 +74,3 @@ pub record TakesFor (c : Call) (v : View) (holds : Bool) (r : Takes) : Type 0 wh
   pub few : r.released + r.moved ≤ threads_per_process
   pub takes : (w : World) → tables_ok w.state ≡ true → Views c.process w.state v
       → ((uses (command_of c.op)).second ≡ true → (uses (command_of c.op)).moves ≡ false → compares c.val3 (old_word c w) ≡ holds) → Takes-of c w r
-
--- the owner that a requeue gives its target, and whether that thread would be moved there or sleeps there
-pub record TargetOf (c : Call) (o : Owning) (v : View) (t : Takes) (r : Target) : Type 0 where
-  pub owner : (s : State) → tables_ok s ≡ true → c.process < processes → Views c.process s v
-      → r.owner ≡ owner_given o (owner_of c.process c.uaddr2 s)
-  pub owns : r.owns ≡ (elem (thread_number c.process r.owner) (take t.moved (drop t.released t.taken)) || sleeps_in v c.uaddr2 r.owner)

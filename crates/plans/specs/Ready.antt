@@ -1,10 +1,9 @@
 -- What a call that was not refused has shown.
-use Rattle.std.specs.Prelude.{◌≡◌, true, false, List, ℕ, ◌<◌, length, eqb}
+use Rattle.std.specs.Prelude.{◌≡◌, true, false, List, ℕ, ◌<◌, length}
 use Rattle.tables.specs.declared.State.{State}
 use Rattle.rules.specs.declared.event.Call.{Call}
-use Rattle.rules.specs.declared.event.Owning.{Owning}
 use Rattle.tables.specs.Sizes.{processes, threads_per_process, bytes_per_process, memory_words}
-use Rattle.tables.specs.Tables.{thread_of, is_owner, aligned, tables_ok}
+use Rattle.tables.specs.Tables.{thread_of, tables_ok}
 use Rattle.rules.specs.Commands.{command_of, is_unknown, uses}
 use Rattle.rules.specs.Calls.{caller}
 
@@ -15,12 +14,8 @@ pub record Ready (c : Call) (s : State) : Type 0 where
   pub index : c.index < threads_per_process
   pub runs : (thread_of s (caller c)).waiting ≡ false
 
--- and of its arguments: all that the rows show but the last two
-pub record Granted (c : Call) (o : Owning) (s : State) (words : List ℕ) : Type 0 where
+pub record Granted (c : Call) (s : State) (words : List ℕ) : Type 0 where
   pub ready : Ready c s
   pub known : is_unknown (command_of c.op) ≡ false
   pub memory : length words ≡ memory_words
-  pub alignment : (uses (command_of c.op)).second ≡ true → aligned c.uaddr2 ≡ true
   pub second : (uses (command_of c.op)).second ≡ true → c.uaddr2 < bytes_per_process
-  pub differ : (uses (command_of c.op)).moves ≡ true → eqb c.uaddr c.uaddr2 ≡ false
-  pub named : is_owner o.owner ≡ true

@@ -1,24 +1,20 @@
 // Plans: what a call decides that no row refuses, on the view of its own process; each kernel carries a plan out on its own tables. It
 // stands on views, commands and operations.
-ghost use Rattle.std.specs.Prelude.{◌≡◌, false, cond, ◌++◌, ◌+◌, ◌-◌, ◌≤◌, ◌<◌, min, take, drop, ltb};
-ghost use Rattle.lists.specs.Lists.{elem, tabulate};
-ghost use Rattle.tables.specs.Sizes.{processes, threads_per_process, no_owner};
-ghost use Rattle.tables.specs.Editions.{present};
-ghost use Rattle.rules.specs.Calls.{owner_given, heir_in};
+ghost use Rattle.std.specs.Prelude.{◌≡◌, false, cond, ◌++◌, ◌+◌, ◌-◌, ◌≤◌, ◌<◌, min, take, ltb};
+ghost use Rattle.lists.specs.Lists.{tabulate};
+ghost use Rattle.tables.specs.Sizes.{processes, threads_per_process};
 ghost use Rattle.rules.specs.WakeOp.{new_word, compares};
 ghost use Rattle.views.specs.Views.{Small, by_rank};
-ghost use Rattle.plans.specs.Plans.{TakesFor, TargetOf, PlannedSleep, PlannedTake};
+ghost use Rattle.plans.specs.Plans.{TakesFor, PlannedSleep, PlannedTake};
 
 use commands::{deadline_of, mask_of, second_cap, timeout_given, uses_by};
 use operations::{compares, new_word};
-use rules::event::{Call, Owning};
+use rules::event::Call;
 use tables::State;
-use views::{View, at_rank, candidates, owner_at, sleeps_there};
+use views::{View, at_rank, candidates};
 
 // What a call does: the caller falls asleep at uaddr, with a mask and perhaps a deadline; or sleepers are taken, by number and in order,
-// of which the first run and the next move to uaddr2, and the word at uaddr2 may be written. The count is the answer then. The sleepers
-// that the word at uaddr has afterwards get an owner, and those at uaddr2 another if second says so. It is not carried out if it would
-// leave a thread asleep on a word that it owns.
+// of which the first run and the next move to uaddr2, and the word at uaddr2 may be written. The count is the answer then.
 #[derive(Drop)]
 pub struct Plan {
     pub sleeps: bool,
@@ -31,10 +27,6 @@ pub struct Plan {
     pub writes: bool,
     pub word: u32,
     pub count: u32,
-    pub owner: u8,
-    pub second: bool,
-    pub owner2: u8,
-    pub owns: bool,
 }
 
 fn least(a: usize, b: usize) -> usize
@@ -150,86 +142,14 @@ fn operate(acts: bool, val3: u32, old: u32) -> Operated
     }
 }
 
-// The owner that a wait gives its word and a requeue its target.
-fn given(o: Owning, old: u8) -> u8
-    ensures { result ≡ owner_given o old }
-{
-    if o.names { o.owner } else { old }
-}
-
-// The owner that a wake or requeue leaves its first word: the first who is released, if the call says so.
-fn left(single: bool, t: Takes) -> u8
-    ensures { result ≡ cond single (heir_in present (take t.released t.taken)) no_owner }
-{
-    if !single | (t.released == 0) {
-        return State::NO_OWNER;
-    }
-    (t.taken[0] as usize % State::THREADS_PER_PROCESS) as u8
-}
-
-// Whether a thread is among those who move.
-fn among(t: Takes, thread: u16) -> bool
-    requires { t.released + t.moved ≤ threads_per_process }
-    ensures { result ≡ elem thread (take t.moved (drop t.released t.taken)) }
-{
-    let mut none = true;
-    let mut k: usize = 0;
-    while k < t.moved {
-        none = none & (t.taken[t.released + k] != thread);
-        k += 1;
-    }
-    !none
-}
-
-// What becomes of a target's owner.
-#[derive(Drop)]
-struct Target {
-    owner: u8,
-    owns: bool,
-}
-
-// The owner that a requeue gives its target, and whether that thread would sleep there.
-fn target_of(v: View, c: Call, o: Owning, t: Takes) -> Target
-    requires { (c.process < processes) × (t.released + t.moved ≤ threads_per_process) }
-    ensures { TargetOf c o v t result }
-{
-    let old = owner_at(v, c.uaddr2);
-    let owner = given(o, old as u8);
-    let there = sleeps_there(v, c.uaddr2, owner as u16);
-    let base = State::THREADS_PER_PROCESS * (c.process as usize);
-    let moved = among(t, (base + owner as usize) as u16);
-    Target {
-        owner: owner,
-        owns: moved | there,
-    }
-}
-
-// No other call has a target.
-fn target_if(moves: bool, v: View, c: Call, o: Owning, t: Takes) -> Target
-    requires { (c.process < processes) × (t.released + t.moved ≤ threads_per_process) }
-    ensures { cond moves (TargetOf c o v t result) (result ≡ record { owner = no_owner; owns = false }) }
-{
-    if moves {
-        target_of(v, c, o, t)
-    } else {
-        Target {
-            owner: State::NO_OWNER,
-            owns: false,
-        }
-    }
-}
-
-// The plan of a wait. The kernels call it and take_plan for a process that exists, on the view of tables that keep the rules.
-pub fn sleep_plan(v: View, c: Call, o: Owning, now: u64) -> Plan
-    ensures { PlannedSleep c o v now result }
+// The plan of a wait.
+pub fn sleep_plan(c: Call, now: u64) -> Plan
+    ensures { PlannedSleep c now result }
 {
     let u = uses_by(c.op);
     let bitset = mask_of(c, u.mask);
     let timed = timeout_given(c);
     let due = deadline_of(c, u.mask, now);
-    let old = owner_at(v, c.uaddr);
-    let owner = given(o, old as u8);
-    let there = sleeps_there(v, c.uaddr, owner as u16);
     Plan {
         sleeps: true,
         bitset: bitset,
@@ -241,25 +161,20 @@ pub fn sleep_plan(v: View, c: Call, o: Owning, now: u64) -> Plan
         writes: false,
         word: 0,
         count: 0,
-        owner: owner,
-        second: false,
-        owner2: State::NO_OWNER,
-        owns: there | (owner == c.index),
     }
 }
 
-// The plan of any other call; old: the word at uaddr2.
-pub fn take_plan(v: View, c: Call, o: Owning, old: u32) -> Plan
+// The plan of any other call; old: the word at uaddr2. The kernels call it for a process that exists, on the view of tables that keep the
+// rules.
+pub fn take_plan(v: View, c: Call, old: u32) -> Plan
     requires { (c.process < processes) × Small v }
-    ensures { PlannedTake c o v old result }
+    ensures { PlannedTake c v old result }
 {
     let u = uses_by(c.op);
     let acts = u.second & !u.moves;
-    let op = operate(acts, c.val3, old);
-    let t = taken_by(v, c, op.holds);
+    let o = operate(acts, c.val3, old);
+    let t = taken_by(v, c, o.holds);
     let counted = only_if(u.compare, t.moved);
-    let owner = left(o.single & !acts, t);
-    let target = target_if(u.moves, v, c, o, t);
     let who = t.taken;
     Plan {
         sleeps: false,
@@ -270,11 +185,7 @@ pub fn take_plan(v: View, c: Call, o: Owning, old: u32) -> Plan
         released: t.released,
         moved: t.moved,
         writes: acts,
-        word: op.word,
+        word: o.word,
         count: (t.released + counted) as u32,
-        owner: owner,
-        second: u.moves | op.holds,
-        owner2: target.owner,
-        owns: target.owns,
     }
 }

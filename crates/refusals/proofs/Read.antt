@@ -6,29 +6,26 @@ use lib.ListN.{get_or}
 use borrow.Author.Tests.{leb-false}
 use Rattle.tables.specs.declared.State.{State}
 use Rattle.rules.specs.declared.event.Call.{Call}
-use Rattle.rules.specs.declared.event.Owning.{Owning}
-use Rattle.tables.specs.Editions.{present}
+use Rattle.rules.specs.declared.event.Event.TheVariants.{Call as CallEvent}
 use Rattle.tables.specs.Sizes.{bytes_per_process}
-use Rattle.tables.specs.Tables.{World, thread_of, word_at, world}
+use Rattle.tables.specs.Tables.{thread_of, world}
 use Rattle.rules.specs.Answers.{Row, first}
 use Rattle.rules.specs.Commands.{command_of}
-use Rattle.rules.specs.Calls.{first_rows, caller, argument_rows, differs, front_in, front_rows}
+use Rattle.rules.specs.Calls.{first_rows, argument_rows, rows_in, call_rows, differs}
+use Rattle.rules.specs.Events.{own_rows, refusals}
 use Rattle.commands.specs.Places.{thread_place, word_place}
 use Rattle.commands.proofs.Places.{thread_there, word_there}
 use Rattle.rules.proofs.Rows.{Same, ◌then◌, same_behind, same_first}
 use Rattle.rules.proofs.Passed.{thread_process, thread_index, uaddr_inside}
 
--- The rows of a call from the third up to those that look at what it would do, on the record t and the word i that the code reads, and on its
--- own: where the thread or the address does not exist, an earlier row refuses.
-abbrev pub front_read : Call → Owning → State → List ℕ → ℕ → ℕ → List Row
-front_read c o s ws t i = front_in present c o (thread_of s t).waiting (get_or ws i 0)
+-- The verdict on the record t and the word i that the code reads: where the thread or the address does not exist, an earlier row refuses.
+abbrev pub rows_read : Call → State → List ℕ → ℕ → ℕ → List Row
+rows_read c s ws t i =
+    first_rows (world s ws) ++ call_rows c (thread_of s t).waiting s.clock (get_or ws i 0)
 
-abbrev pub own_front : Call → Owning → World → List Row
-own_front c o w = front_in present c o (thread_of w.state (caller c)).waiting (word_at w c.process c.uaddr)
-
-module _ (c : Call) (o : Owning) (s : State) (ws : List ℕ) (t i : ℕ) (thread : t ≡ thread_place c.process c.index) (word : i ≡ word_place c.process c.uaddr) where
-  own_same : Same (front_read c o s ws t i) (own_front c o (world s ws))
-  unfolding front_in
+module _ (c : Call) (s : State) (ws : List ℕ) (t i : ℕ) (thread : t ≡ thread_place c.process c.index) (word : i ≡ word_place c.process c.uaddr) where
+  own_same : Same (call_rows c (thread_of s t).waiting s.clock (get_or ws i 0)) (own_rows (CallEvent c) (world s ws))
+  unfolding rows_in
   own_same =
       let k = command_of c.op in
       refl then λ h3.
@@ -42,11 +39,12 @@ module _ (c : Call) (o : Owning) (s : State) (ws : List ℕ) (t i : ℕ) (thread
       refl then λ h9.
       tt)
 
-  pub own_verdict : first (front_read c o s ws t i) ≡ first (own_front c o (world s ws))
-  own_verdict = same_first (front_read c o s ws t i) (own_front c o (world s ws)) own_same
+  pub own_verdict : first (call_rows c (thread_of s t).waiting s.clock (get_or ws i 0)) ≡ first (own_rows (CallEvent c) (world s ws))
+  own_verdict = same_first (call_rows c (thread_of s t).waiting s.clock (get_or ws i 0)) (own_rows (CallEvent c) (world s ws)) own_same
 
-  same_rows : Same (first_rows (world s ws) ++ front_read c o s ws t i) (front_rows c o (world s ws))
+  same_rows : Same (rows_read c s ws t i) (refusals (CallEvent c) (world s ws))
+  unfolding refusals
   same_rows = refl then λ h1. refl then λ h2. own_same
 
-  pub verdict_is : first (first_rows (world s ws) ++ front_read c o s ws t i) ≡ first (front_rows c o (world s ws))
-  verdict_is = same_first (first_rows (world s ws) ++ front_read c o s ws t i) (front_rows c o (world s ws)) same_rows
+  pub verdict_is : first (rows_read c s ws t i) ≡ first (refusals (CallEvent c) (world s ws))
+  verdict_is = same_first (rows_read c s ws t i) (refusals (CallEvent c) (world s ws)) same_rows

@@ -1,15 +1,15 @@
 // Refusals: which row of the table of answers refuses an event, or none. It stands on verdicts and tables.
 ghost use Rattle.std.specs.Prelude.{◌≡◌, get_or};
-ghost use Rattle.rules.specs.declared.event.Event.TheVariants.{Store, Clock, Interrupt, SetPriority};
+ghost use Rattle.rules.specs.declared.event.Event.TheVariants.{Call as CallEvent, Store, Clock, Interrupt, SetPriority};
 ghost use Rattle.rules.specs.declared.answer.Verdict.TheVariants.{Refuse};
 ghost use Rattle.rules.specs.Answers.{by_rows, first};
-ghost use Rattle.rules.specs.Calls.{first_rows, front_rows};
+ghost use Rattle.rules.specs.Calls.{first_rows};
 ghost use Rattle.rules.specs.Events.{refusals};
 ghost use Rattle.tables.specs.Tables.{world};
 
 use commands::{thread_index, word_index};
 use rules::answer::{Errno, Reason, Verdict};
-use rules::event::{Call, Owning};
+use rules::event::Call;
 use tables::check::tables_ok;
 use tables::{PROCESS_BYTES, PROCESSES, State, WORD_BYTES, WORDS};
 use verdicts::{invalid, no_thread, row, verdict_on, verdict_on_priority};
@@ -30,15 +30,14 @@ fn word_at(words: &[u32], i: usize) -> u32
     if i < words.len() { words[i] } else { 0 }
 }
 
-// The rows of a call up to those that look at what it would do.
-pub fn of_call(s: State, words: &[u32], c: Call, o: Owning) -> Verdict
-    ensures { result ≡ first (front_rows c o (world s words.now)) }
+pub fn of_call(s: State, words: &[u32], c: Call) -> Verdict
+    ensures { result ≡ first (refusals (CallEvent c) (world s words.now)) }
 {
     let t = thread_index(c.process, c.index);
     let thread = s.threads[t];
     let i = word_index(c.process, c.uaddr);
     let word = word_at(words, i);
-    let v = verdict_on(c, o, thread.waiting, word);
+    let v = verdict_on(c, thread.waiting, s.clock, word);
     tested(s, words, v)
 }
 

@@ -20,7 +20,7 @@ use Rattle.rules.specs.Events.{step}
 use Rattle.rules.specs.History.{named, is_kept, belongs}
 use Rattle.rules.specs.Claims.{Alike}
 use Rattle.rules.proofs.Preserved.{Valid}
-use Rattle.rules.proofs.View.{own_thread, view_state, view, view_state_lem, view_clock, owner_alike}
+use Rattle.rules.proofs.View.{own_thread, view_state, view, view_state_lem, view_clock}
 use Rattle.rules.proofs.Isolation.{own_step, kept_step, struck_step, alike, words_alike}
 
 -- the n elements from place k on
@@ -42,14 +42,6 @@ module _ {A : Type 0} (d : A) (n k : ℕ) (l m : List A) (same : length l ≡ le
   same_part e i h = sym (get_d_part l i h) ∙ ap (λ x. get_or x i d) e ∙ get_d_part m i h
 
 module _ (p : ℕ) (u v : World) where
-  own_records : ((i : ℕ) → i < threads_per_process → thread_of u.state (thread_number p i) ≡ thread_of v.state (thread_number p i))
-      → (t : ℕ) → own_thread p t ≡ true → thread_of u.state t ≡ thread_of v.state t
-  own_records same t e =
-      let k = eqb-true (t / threads_per_process) p e in
-      let at : thread_number p (t - threads_per_process * p) ≡ t = omega arith in
-      rw at at (same (t - threads_per_process * p) (omega arith))
-
-  -- the owners of its words follow
   pub alike_exactly : length u.words ≡ length v.words → length u.state.threads ≡ length v.state.threads
       → Alike p u v
       ↔ ((part words_per_process (words_per_process * p) u.words ≡ part words_per_process (words_per_process * p) v.words)
@@ -62,14 +54,11 @@ module _ (p : ℕ) (u v : World) where
       part_same fresh_thread threads_per_process (threads_per_process * p) u.state.threads v.state.threads lt a.records,
       a.order,
     )),
-    (λ e.
-        let records = same_part fresh_thread threads_per_process (threads_per_process * p) u.state.threads v.state.threads lt e.1 in
-        record {
-          words = λ a h. same_part 0 words_per_process (words_per_process * p) u.words v.words lw e.0 (a / word_bytes) (omega arith);
-          records = records;
-          owners = owner_alike p u.state v.state (own_records records) e.2;
-          order = e.2;
-        }),
+    (λ e. record {
+      words = λ a h. same_part 0 words_per_process (words_per_process * p) u.words v.words lw e.0 (a / word_bytes) (omega arith);
+      records = same_part fresh_thread threads_per_process (threads_per_process * p) u.state.threads v.state.threads lt e.1;
+      order = e.2;
+    }),
   )
 
 module _ (p : ℕ) (u v : World) (g : Valid u) (h : Valid v) (time : u.state.clock ≡ v.state.clock) (same : Alike p u v) where
@@ -86,7 +75,12 @@ module _ (p : ℕ) (u v : World) (g : Valid u) (h : Valid v) (time : u.state.clo
       )
     where
       records : (t : ℕ) → cond (own_thread p t) (thread_of u.state t) fresh_thread ≡ cond (own_thread p t) (thread_of v.state t) fresh_thread
-      records t = cases (own_thread p t) (λ e. rw (e, own_records p u v same.records t e)) (λ e. rw e)
+      records t = cases (own_thread p t)
+          (λ e.
+          let k = eqb-true (t / threads_per_process) p e in
+          let at : thread_number p (t - threads_per_process * p) ≡ t = omega arith in
+          rw e (rw at at (same.records (t - threads_per_process * p) (omega arith))))
+          (λ e. rw e)
 
   clocks : (x y : World) → view p x ≡ view p y → x.state.clock ≡ y.state.clock
   clocks x y e =

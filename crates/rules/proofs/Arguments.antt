@@ -2,19 +2,15 @@
 use mathlib.Core.Path.{◌≡◌, refl, sym, ◌∙◌}
 use mathlib.Core.Bool.{Bool, true, false, cond, ◌||◌}
 use mathlib.Core.List.{List, [], ◌∷◌, ◌++◌}
-use Prim.Native.Nat.{ℕ}
 use Rattle.lists.proofs.Tests.{cases, clash}
 use Rattle.rules.specs.declared.event.Command.{Command}
 use Rattle.rules.specs.declared.event.Call.{Call}
-use Rattle.rules.specs.declared.event.Owning.{Owning}
 use Rattle.rules.specs.declared.answer.Errno.{Errno}
 use Rattle.rules.specs.declared.answer.Errno.TheVariants.{EINVAL}
 use Rattle.rules.specs.declared.answer.Verdict.{Verdict}
 use Rattle.rules.specs.declared.answer.Verdict.TheVariants.{Refuse}
-use Rattle.tables.specs.Editions.{present}
-use Rattle.rules.specs.Answers.{Row, ◌because◌, ◌when◌, by_rows, reason_among}
-use Rattle.rules.specs.Commands.{command_of}
-use Rattle.rules.specs.Calls.{bad_argument, argument_rows, behind_rows, last_rows, table_with, front_in, rows_in}
+use Rattle.rules.specs.Answers.{Row, ◌because◌, by_rows, reason_among}
+use Rattle.rules.specs.Calls.{bad_argument, argument_rows}
 use Rattle.rules.specs.Claims.{Clear}
 use Rattle.rules.proofs.Rows.{clear_left, clear_both, ◌and◌, rows_append, rows_clear}
 
@@ -33,14 +29,6 @@ module _ {ℓ} {A : Type ℓ} (f : Errno → A) where
   arguments_one k c qs below =
       let x = f EINVAL in
       rows_append (λ y. f y.errno) (argument_rows k c) qs below ∙ sym (rw (cond_or _ _ x _, cond_or _ _ x _, cond_or _ _ x _, cond_or _ _ x _, cond_or _ _ x _))
-
-  -- in the whole table of a call, too
-  pub table_one : (c : Call) (o : Owning) (waits : Bool) (now word : ℕ) (owns : Bool) (below : A)
-      → by_errno f (rows_in present c o waits now word owns) below ≡ by_errno f (table_with present (EINVAL when bad_argument (command_of c.op) c ∷ []) c o waits now word owns) below
-  unfolding rows_in front_in
-  table_one c o waits now word owns below =
-      let k = command_of c.op in
-      rw (rows_append (λ y. f y.errno) (argument_rows k c ++ behind_rows present k c o word) (last_rows c now owns) below, arguments_one k c (behind_rows present k c o word) _)
 
 -- where that row does not apply, none of them does
 none_clear : (rs : List Row) → by_errno (λ x. true) rs false ≡ false → Clear rs

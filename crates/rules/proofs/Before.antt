@@ -3,69 +3,50 @@
 use mathlib.Core.Path.{◌≡◌, refl, sym, ap, ◌∙◌}
 use mathlib.Core.Bool.{Bool, true, false, not, cond, ◌&&◌, ◌||◌, or-true}
 use Prim.Native.Nat.{◌-◌, ◌^◌, ◌<◌}
-use mathlib.Core.List.{List, [], ◌∷◌, ◌++◌, map}
-use lib.Dec.{eqb, leb}
+use mathlib.Core.List.{List, [], ◌∷◌, map}
+use lib.Dec.{eqb}
 use lib.IntN.{pos, neg_ℤ}
 use borrow.Author.Tests.{eq-eqb, not-true, lt-leb}
 use Rattle.lists.proofs.Tests.{cases, clash, and_left, and_right}
 use Rattle.rules.specs.declared.event.Command.{Command}
 use Rattle.rules.specs.declared.event.Command.TheVariants.{Wait, Wake, Requeue, CmpRequeue, WakeOp, WaitBitset, WakeBitset, Unknown}
 use Rattle.rules.specs.declared.event.Call.{Call}
-use Rattle.rules.specs.declared.event.Owning.{Owning}
 use Rattle.rules.specs.declared.event.Event.{Event}
-use Rattle.rules.specs.declared.event.Event.TheVariants.{Call as CallEvent, Store, Clock, Interrupt, Query, SetPriority, OwnerWait, OwnerWake, OwnerRequeue, OwnerQuery}
+use Rattle.rules.specs.declared.event.Event.TheVariants.{Call as CallEvent, Store, Clock, Interrupt, Query, SetPriority}
 use Rattle.rules.specs.declared.answer.Errno.{Errno}
 use Rattle.rules.specs.declared.answer.Errno.TheVariants.{ENXIO, EBADF, ESRCH, EBUSY, ENOSYS, EINVAL, EFAULT, EAGAIN, ETIMEDOUT}
 use Rattle.rules.specs.declared.answer.Refusal.{Refusal}
 use Rattle.rules.specs.declared.answer.Verdict.TheVariants.{Refuse}
 use Rattle.rules.specs.declared.answer.Answer.TheVariants.{Refused}
 use Rattle.tables.specs.Sizes.{threads, word_bits}
-use Rattle.tables.specs.Editions.{present}
-use Rattle.tables.specs.Tables.{World, thread_number, thread_of, word_at}
-use Rattle.rules.specs.Answers.{errno_number, Row, plain, ◌when◌, first, Outcome, outcome, judged}
+use Rattle.tables.specs.Tables.{World, thread_number, thread_of}
+use Rattle.rules.specs.Answers.{errno_number, Row, plain, first, Outcome, outcome, judged}
 use Rattle.rules.specs.Commands.{command_of}
 use Rattle.rules.specs.Signed.{negative}
 use Rattle.rules.specs.WakeOp.{arg_bits, is_power, op_arg_field, cmp_arg_field}
-use Rattle.rules.specs.Calls.{first_rows, caller, bad_argument, is_wake_op, old_word, released_second, wait, wake, requeue, wake_op, call_effect, table_with, would_own, asked_rows}
+use Rattle.rules.specs.Calls.{caller, is_wake_op, old_word, rows_in, released_second, wait, wake, requeue, wake_op, call_effect}
 use Rattle.rules.specs.Events.{own_rows, is_query, refusals, clock_effect, interrupt_effect, effect, step}
-use Rattle.rules.specs.Before.{row_without_reason, refusals_without_reasons, step_without_reasons, without_reason, wake_op_unsigned, effect_unsigned, step_unsigned, none_negative, minus12, numbers_with12, OutcomeWith12, as_with12, full, judged_with12, step_with12}
-use Rattle.rules.specs.Claims.{Clear, Asks, as_call, as_owner_wait, as_owner_wake, as_owner_requeue}
+use Rattle.rules.specs.Before.{row_without_reason, refusals_without_reasons, step_without_reasons, without_reason, effect_unsigned, step_unsigned, none_negative, minus12, numbers_with12, OutcomeWith12, as_with12, full, judged_with12, step_with12}
+use Rattle.rules.specs.Claims.{Clear}
 use Rattle.tables.proofs.Sound.{room}
-use Rattle.rules.proofs.ByEvent.{asks_of, by_call}
-use Rattle.rules.proofs.Rows.{rows_clear, rows_refused, asks_rows, asks_effect, ◌and◌, verdicts, step_refused, step_clear}
+use Rattle.rules.proofs.ByEvent.{by_call}
+use Rattle.rules.proofs.Rows.{rows_clear, rows_refused, ◌and◌, verdicts, step_refused, step_clear}
 use Rattle.rules.proofs.Passed.{clear_passed, caller_below}
 use Rattle.rules.proofs.Refused.{refusal_of}
-use Rattle.rules.proofs.Arguments.{by_errno, table_one}
+use Rattle.rules.proofs.Arguments.{by_errno, arguments_one}
 use Rattle.rules.proofs.Commands.{by_command}
 use Rattle.rules.proofs.WakeOp.{new_word_plain, compares_plain}
-
--- the rows of a call, with the one for -22
-abbrev one_row : Call → Owning → World → List Row
-one_row c o w =
-    table_with present (EINVAL when bad_argument (command_of c.op) c ∷ []) c o (thread_of w.state (caller c)).waiting w.state.clock
-    (word_at w c.process c.uaddr) (would_own c o w)
-
-call_before : {e : Event} {c : Call} {o : Owning} → Asks e c o → (w : World) → refusals_without_reasons e w ≡ first_rows w ++ map row_without_reason (one_row c o w)
-unfolding refusals_without_reasons
-call_before (as_call c) w = refl
-call_before (as_owner_wait x) w = refl
-call_before (as_owner_wake p i a) w = refl
-call_before (as_owner_requeue x) w = refl
 
 module _ {ℓ} {A : Type ℓ} (f : Errno → A) where
   plain_rows : (rs : List Row) (below : A) → by_errno f rs below ≡ by_errno f (map row_without_reason rs) below
   plain_rows [] below = refl
   plain_rows (r ∷ rs) below = ap (cond r.applies (f r.refusal.errno)) (plain_rows rs below)
 
-  rows_one : (c : Call) (o : Owning) (w : World) (below : A)
-      → by_errno f (first_rows w ++ asked_rows c o w) below ≡ by_errno f (first_rows w ++ map row_without_reason (one_row c o w)) below
-  rows_one c o w below = rw (table_one f c o _ _ _ _ below, plain_rows (one_row c o w) below)
-
   rows_before : (e : Event) (w : World) (below : A) → by_errno f (refusals e w) below ≡ by_errno f (refusals_without_reasons e w) below
+  unfolding refusals refusals_without_reasons rows_in
   rows_before e w below = by_call (λ e. by_errno f (refusals e w) below ≡ by_errno f (refusals_without_reasons e w) below)
-      (λ e c o is. rw (asks_rows is w, call_before is w) (rows_one c o w below))
-      (λ e none. unfold refusals refusals_without_reasons in
-      (cases (is_query e) (λ q. rw q) (λ q. rw (q, none (List Row) _ _, plain_rows (own_rows e w) below)))) e
+      (λ c. rw (arguments_one f (command_of c.op) c _ below))
+      (λ e none. cases (is_query e) (λ q. rw q) (λ q. rw (q, none (List Row) _ _, plain_rows (own_rows e w) below))) e
 
 -- a step by its errors: of the rules that hold now, reasons taken away, and of the rules before
 now_by_errno : (rs : List Row) (o : Outcome) (w : World)
@@ -90,26 +71,22 @@ plain_mapped (r ∷ rs) = refl and plain_mapped rs
 plain_before : (e : Event) (w : World) → Plain (refusals_without_reasons e w)
 unfolding refusals_without_reasons
 plain_before e w = by_call (λ e. Plain (refusals_without_reasons e w))
-    (λ e c o is. rw (call_before is w) (refl and refl and plain_mapped (one_row c o w)))
+    (λ c. refl and refl and refl and refl and refl and refl and refl and refl and refl and refl and tt)
     (λ e none. cases (is_query e) (λ q. rw q tt) (λ q. rw (q, none (List Row) _ _) (refl and refl and plain_mapped (own_rows e w)))) e
 
 -- what an event does where nothing refuses it has no reason beside it
-command_plain : (k : Command) (c : Call) (o : Owning) (w : World) → without_reason (call_effect k c o w).answer ≡ (call_effect k c o w).answer
+command_plain : (k : Command) (c : Call) (w : World) → without_reason (call_effect k c w).answer ≡ (call_effect k c w).answer
 unfolding wait wake requeue wake_op
-command_plain k c o w = by_command (λ k f. without_reason (f c o w).answer ≡ (f c o w).answer) (λ k i. refl) (λ k. refl) (λ k. refl) refl refl k
+command_plain k c w = by_command (λ k f. without_reason (f c w).answer ≡ (f c w).answer) (λ k i. refl) (λ k. refl) (λ k. refl) refl refl k
 
 effect_plain : (e : Event) (w : World) → without_reason (effect e w).answer ≡ (effect e w).answer
 unfolding effect clock_effect interrupt_effect
-effect_plain (CallEvent c) w = command_plain _ c _ w
+effect_plain (CallEvent c) w = command_plain (command_of c.op) c w
 effect_plain (Store p a v) w = refl
 effect_plain (Clock now) w = refl
 effect_plain (Interrupt p i) w = cases (thread_of w.state (thread_number p i)).waiting (λ e. rw e) (λ e. rw e)
 effect_plain (Query p) w = refl
 effect_plain (SetPriority p i n) w = refl
-effect_plain (OwnerWait x) w = command_plain _ _ _ w
-effect_plain (OwnerWake p i a) w = command_plain _ _ _ w
-effect_plain (OwnerRequeue x) w = command_plain _ _ _ w
-effect_plain (OwnerQuery p i a) w = refl
 
 pub as_before_reasons : (e : Event) (w : World) → outcome (without_reason (step e w).answer) (step e w).world ≡ step_without_reasons e w
 unfolding step step_without_reasons
@@ -123,41 +100,38 @@ as_before_reasons e w =
 -- Before signs.
 
 -- the one command that reads an operation and a comparison out of val3
-wake_op_lem : (k : Command) (c : Call) (o : Owning) (w : World) → is_wake_op k ≡ true → call_effect k c o w ≡ wake_op k c w
+wake_op_lem : (k : Command) (c : Call) (w : World) → is_wake_op k ≡ true → call_effect k c w ≡ wake_op k c w
 unfolding call_effect
-wake_op_lem Wait c o w h = clash false h refl
-wake_op_lem Wake c o w h = clash false h refl
-wake_op_lem Requeue c o w h = clash false h refl
-wake_op_lem CmpRequeue c o w h = clash false h refl
-wake_op_lem WakeOp c o w h = refl
-wake_op_lem WaitBitset c o w h = clash false h refl
-wake_op_lem WakeBitset c o w h = clash false h refl
-wake_op_lem Unknown c o w h = clash false h refl
+wake_op_lem Wait c w h = clash false h refl
+wake_op_lem Wake c w h = clash false h refl
+wake_op_lem Requeue c w h = clash false h refl
+wake_op_lem CmpRequeue c w h = clash false h refl
+wake_op_lem WakeOp c w h = refl
+wake_op_lem WaitBitset c w h = clash false h refl
+wake_op_lem WakeBitset c w h = clash false h refl
+wake_op_lem Unknown c w h = clash false h refl
 
-op_unsigned : (k : Command) (c : Call) (w : World)
-    → ((is_power c.val3 || not (negative arg_bits (op_arg_field c.val3))) && not (negative arg_bits (cmp_arg_field c.val3)) && not (negative word_bits (old_word c w))) ≡ true
-    → wake_op k c w ≡ wake_op_unsigned k c w
-unfolding wake_op released_second
-op_unsigned k c w low =
+call_unsigned : (c : Call) (w : World) → none_negative (CallEvent c) w ≡ true → effect (CallEvent c) w ≡ effect_unsigned (CallEvent c) w
+unfolding effect wake_op released_second
+call_unsigned c w h =
+    let k = command_of c.op in
     let p = is_power c.val3 || not (negative arg_bits (op_arg_field c.val3)) in
     let q = negative arg_bits (cmp_arg_field c.val3) in
     let r = negative word_bits (old_word c w) in
+    cases (is_wake_op k)
+    (λ e. let low : (p && not q && not r) ≡ true = rw e at h in
     let both = and_left (p && not q) (not r) low in
     rw (
+      e,
+      wake_op_lem k c w e,
       new_word_plain c.val3 (old_word c w) (and_left p (not q) both),
       compares_plain c.val3 (old_word c w) (not-true q (and_right p (not q) both)) (not-true r (and_right (p && not q) (not r) low)),
-    )
-
-call_unsigned : {e : Event} {c : Call} {o : Owning} → Asks e c o → (w : World) → none_negative e w ≡ true → effect e w ≡ effect_unsigned e w
-call_unsigned {e} {c} {o} is w h =
-    let k = command_of c.op in
-    cases (is_wake_op k)
-    (λ on. asks_effect is w ∙ wake_op_lem k c o w on ∙ op_unsigned k c w (rw on at (sym (asks_of _ true is) ∙ h)) ∙ sym (asks_of _ (effect e w) is ∙ rw on))
-    (λ off. sym (asks_of _ (effect e w) is ∙ rw off))
+    ))
+    (λ e. rw e)
 
 effect_unsigned_lem : (e : Event) (w : World) → none_negative e w ≡ true → effect e w ≡ effect_unsigned e w
 effect_unsigned_lem e w = by_call (λ e. none_negative e w ≡ true → effect e w ≡ effect_unsigned e w)
-    (λ e c o is. call_unsigned is w) (λ e none h. sym (none Outcome _ (effect e w))) e
+    (λ c. call_unsigned c w) (λ e none h. sym (none Outcome _ (effect e w))) e
 
 pub as_before_signs : (e : Event) (w : World) → none_negative e w ≡ true → step e w ≡ step_unsigned e w
 unfolding step step_unsigned
@@ -173,10 +147,9 @@ as_before_below c w p q r =
 
 never_full : (e : Event) (w : World) → Clear (refusals e w) → full e w ≡ false
 never_full e w = by_call (λ e. Clear (refusals e w) → full e w ≡ false)
-    (λ e c o is h.
-    let g = clear_passed c o w (rw (asks_rows is w) at h) in
-    asks_of (λ c o. leb threads w.state.count) false is
-    ∙ lt-leb threads w.state.count (room w.state g.sound (caller c) (caller_below c g.process g.index) g.runs))
+    (λ c h.
+    let g = clear_passed c w h in
+    lt-leb threads w.state.count (room w.state g.sound (caller c) (caller_below c g.process g.index) g.runs))
     (λ e none h. none Bool _ false) e
 
 pub judged_refused : (x : Refusal) (rows : List Row) (applies : Bool) (o : Outcome) (w : World) → first rows ≡ Refuse x

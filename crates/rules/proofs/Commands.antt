@@ -4,7 +4,6 @@ use mathlib.Core.Logic.{inl, inr}
 use Rattle.rules.specs.declared.event.Command.{Command}
 use Rattle.rules.specs.declared.event.Command.TheVariants.{Wait, Wake, Requeue, CmpRequeue, WakeOp, WaitBitset, WakeBitset, Unknown}
 use Rattle.rules.specs.declared.event.Call.{Call}
-use Rattle.rules.specs.declared.event.Owning.{Owning}
 use Rattle.rules.specs.declared.answer.Answer.TheVariants.{Refused}
 use Rattle.rules.specs.declared.answer.Errno.TheVariants.{ENOSYS}
 use Rattle.tables.specs.Tables.{World}
@@ -13,9 +12,9 @@ use Rattle.rules.specs.Calls.{wait, wake, requeue, wake_op, call_effect}
 use Rattle.rules.specs.Claims.{IsWait}
 
 -- what holds of a command and its effect, in these five cases, holds of every command
-pub by_command {ℓ} : (P : Command → (Call → Owning → World → Outcome) → Type ℓ)
+pub by_command {ℓ} : (P : Command → (Call → World → Outcome) → Type ℓ)
     → ((k : Command) → IsWait k → P k (wait k)) → ((k : Command) → P k (wake k)) → ((k : Command) → P k (requeue k))
-    → P WakeOp (λ c o w. wake_op WakeOp c w) → P Unknown (λ c o w. outcome (Refused (plain ENOSYS)) w) → (k : Command) → P k (λ c o w. call_effect k c o w)
+    → P WakeOp (wake_op WakeOp) → P Unknown (λ c w. outcome (Refused (plain ENOSYS)) w) → (k : Command) → P k (λ c w. call_effect k c w)
 unfolding call_effect
 by_command P waits wakes requeues op none Wait = waits Wait (inl refl)
 by_command P waits wakes requeues op none WaitBitset = waits WaitBitset (inr refl)

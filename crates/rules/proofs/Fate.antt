@@ -8,59 +8,54 @@ use Rattle.lists.proofs.Tests.{cases, by_cases}
 use Rattle.lists.proofs.Filter.{all_filter}
 use Rattle.lists.proofs.Occurs.{elem_one, elem_all}
 use Rattle.rules.specs.declared.event.Call.{Call}
-use Rattle.rules.specs.declared.event.Owning.{Owning}
 use Rattle.rules.specs.declared.event.Event.{Event}
-use Rattle.rules.specs.declared.event.Event.TheVariants.{Call as CallEvent, Store, Clock, Interrupt, Query, SetPriority, OwnerWait, OwnerWake, OwnerRequeue, OwnerQuery}
+use Rattle.rules.specs.declared.event.Event.TheVariants.{Call as CallEvent, Store, Clock, Interrupt, Query, SetPriority}
 use Rattle.rules.specs.declared.answer.Answer.TheVariants.{Asleep, Count}
-use Rattle.tables.specs.Tables.{expired, expired_sleepers, World, thread_number, fresh_thread, thread_of, arrivals, with_priority, sleep_in, fall_asleep, set_priority, write_word}
+use Rattle.tables.specs.Tables.{expired, expired_sleepers, World, thread_number, fresh_thread, thread_of, arrivals, with_priority, sleep_in, set_priority, write_word}
 use Rattle.rules.specs.Answers.{Outcome}
 use Rattle.rules.specs.Commands.{command_of}
 use Rattle.rules.specs.Calls.{caller}
 use Rattle.rules.specs.Events.{refusals, effect, step, clock_effect, interrupt_effect}
-use Rattle.rules.specs.Claims.{Asks, as_call, as_owner_wait, as_owner_wake, as_owner_requeue, Clear, woken_by, moved_by, sleeps_by, but_owner, Fate, stays, sleeps, wakes, moves, times_out, is_interrupted, is_set}
-use Rattle.rules.proofs.Rows.{asks_rows, asks_effect, verdicts, step_refused, step_clear}
+use Rattle.rules.specs.Claims.{Clear, woken_by, moved_by, sleeps_by, Fate, stays, sleeps, wakes, moves, times_out, is_interrupted, is_set}
+use Rattle.rules.proofs.Rows.{verdicts, step_refused, step_clear}
 use Rattle.tables.proofs.Changes.{change_other, change_named}
 use Rattle.tables.proofs.Sound.{tables_sound}
 use Rattle.rules.proofs.Passed.{clear_passed, caller_below, thread_process, thread_index, sound_of}
 use Rattle.rules.proofs.Refused.{granted_answer}
 use Rattle.rules.proofs.Sleeps.{asleep_sleeps, asleep_leaves}
-use Rattle.rules.proofs.Took.{set_but_owner}
 use Rattle.rules.proofs.Taken.{takes_first, took_expired, took_interrupted}
 
 module _ (w : World) (t : ℕ) where
-  module _ {e : Event} {c : Call} {o : Owning} (is : Asks e c o) where
-    sleeper_fate : (step e w).answer ≡ Asleep → Fate e w t
-    unfolding sleep_in
-    sleeper_fate h =
-        let s = asleep_sleeps is w h in
-        let f = sleeps_by c w in
-        let u = fall_asleep f (caller c) w.state in
-        let left = ap (λ v. but_owner (thread_of v.state t)) (asleep_leaves is w h) ∙ set_but_owner c.process c.uaddr _ u t in
-        cases (elem t (caller c ∷ []))
-        (λ e.
-        let it : t ≡ caller c = elem_one t (caller c) e in
-        let low = caller_below c s.process s.index in
-        let size = (tables_sound w.state s.tables).records in
-        let new : thread_of u t ≡ f (thread_of w.state t) = change_named f (caller c ∷ []) w.state.threads t fresh_thread e (omega arith) in
-        sleeps is it s (left ∙ ap but_owner new))
-        (λ e.
-        let same : thread_of u t ≡ thread_of w.state t = change_other f (caller c ∷ []) w.state.threads t fresh_thread e in
-        stays (left ∙ ap but_owner same))
+  sleeper_fate : (c : Call) → (step (CallEvent c) w).answer ≡ Asleep → Fate (CallEvent c) w t
+  unfolding sleep_in
+  sleeper_fate c h =
+      let s = asleep_sleeps c w h in
+      let f = sleeps_by c w in
+      let left = ap (λ v. thread_of v.state t) (asleep_leaves c w h) in
+      cases (elem t (caller c ∷ []))
+      (λ e.
+      let it : t ≡ caller c = elem_one t (caller c) e in
+      let low = caller_below c s.process s.index in
+      let size = (tables_sound w.state s.tables).records in
+      sleeps c refl it s (left ∙ change_named f (caller c ∷ []) w.state.threads t fresh_thread e (omega arith)))
+      (λ e. stays (left ∙ change_other f (caller c ∷ []) w.state.threads t fresh_thread e))
 
-    taken_fate : (n : ℕ) → (step e w).answer ≡ Count n → Fate e w t
-    taken_fate n h =
-        let k = command_of c.op in
-        let took = (takes_first is w n h).took in
-        cases (elem t (woken_by k c w))
-        (λ d. wakes is d (took.ran t d))
-        (λ d. cases (elem t (moved_by k c w)) (λ m. moves is m (took.went t m)) (λ m. stays (took.stayed t d m)))
+  taken_fate : (c : Call) (n : ℕ) → (step (CallEvent c) w).answer ≡ Count n → Fate (CallEvent c) w t
+  taken_fate c n h =
+      let k = command_of c.op in
+      let took = (takes_first c w n h).took in
+      cases (elem t (woken_by k c w))
+      (λ e. wakes c refl e (took.ran t e))
+      (λ e. cases (elem t (moved_by k c w)) (λ d. moves c refl d (took.went t d)) (λ d. stays (took.stayed t e d)))
 
-    call_fate : Clear (refusals e w) → Fate e w t
-    call_fate r =
-        let same = ap (λ (o : Outcome). o.answer) (step_clear e w r ∙ asks_effect is w) in
-        by_cases (granted_answer (command_of c.op) c o w (clear_passed c o w (rw (asks_rows is w) at r)).known)
-        (λ h. sleeper_fate (same ∙ h))
-        (λ h. taken_fate h.0 (same ∙ h.1))
+  call_fate : (c : Call) → Clear (refusals (CallEvent c) w) → Fate (CallEvent c) w t
+  unfolding refusals effect
+  call_fate c r =
+      let done = step_clear (CallEvent c) w r in
+      let same = ap (λ (o : Outcome). o.answer) done in
+      by_cases (granted_answer (command_of c.op) c w (clear_passed c w r).known)
+      (λ h. sleeper_fate c (same ∙ h))
+      (λ h. taken_fate c h.0 (same ∙ h.1))
 
   clock_fate : (now : ℕ) → Clear (refusals (Clock now) w) → Fate (Clock now) w t
   unfolding refusals effect clock_effect expired_sleepers
@@ -72,7 +67,7 @@ module _ (w : World) (t : ℕ) where
       (λ e. times_out now refl
       (elem_all (λ u. expired now (thread_of w.state u)) (expired_sleepers now w.state) (all_filter (λ u. expired now (thread_of w.state u)) (arrivals w.state)) t e)
       (done ∙ took.ran t e))
-      (λ e. stays (ap but_owner done ∙ took.stayed t e refl))
+      (λ e. stays (done ∙ took.stayed t e refl))
 
   interrupt_fate : (p i : ℕ) → Clear (refusals (Interrupt p i) w) → Fate (Interrupt p i) w t
   unfolding refusals effect interrupt_effect
@@ -87,8 +82,8 @@ module _ (w : World) (t : ℕ) where
       (λ e.
       let it : t ≡ u = elem_one t u e in
       is_interrupted p i refl it (ap (λ v. (thread_of w.state v).waiting) it ∙ on) (done ∙ rw on (took.ran t e)))
-      (λ e. stays (ap but_owner done ∙ rw on (took.stayed t e refl))))
-      (λ off. stays (ap but_owner done ∙ rw off))
+      (λ e. stays (done ∙ rw on (took.stayed t e refl))))
+      (λ off. stays (done ∙ rw off))
 
   priority_fate : (p i n : ℕ) → Clear (refusals (SetPriority p i n) w) → Fate (SetPriority p i n) w t
   unfolding refusals effect set_priority
@@ -111,27 +106,19 @@ module _ (w : World) (t : ℕ) where
         answer = ap (λ (o : Outcome). o.answer) done;
         left = left ∙ change_named (with_priority n) (u ∷ []) w.state.threads t fresh_thread e (omega (arith, g.records));
       }))
-      (λ e. stays (ap but_owner (left ∙ change_other (with_priority n) (u ∷ []) w.state.threads t fresh_thread e)))
-
-  -- an event that leaves the tables as they were
-  still_fate : (e : Event) → (step e w).world.state ≡ w.state → Fate e w t
-  still_fate e same = stays (ap (λ u. but_owner (thread_of u t)) same)
+      (λ e. stays (left ∙ change_other (with_priority n) (u ∷ []) w.state.threads t fresh_thread e))
 
   passed_fate : (e : Event) → Clear (refusals e w) → Fate e w t
   unfolding effect write_word
-  passed_fate (CallEvent c) r = call_fate (as_call c) r
-  passed_fate (Store p a v) r = still_fate (Store p a v) (ap (λ (o : Outcome). o.world.state) (step_clear (Store p a v) w r))
+  passed_fate (CallEvent c) r = call_fate c r
+  passed_fate (Store p a v) r = stays (ap (λ (o : Outcome). thread_of o.world.state t) (step_clear (Store p a v) w r))
   passed_fate (Clock now) r = clock_fate now r
   passed_fate (Interrupt p i) r = interrupt_fate p i r
-  passed_fate (Query p) r = still_fate (Query p) (ap (λ (o : Outcome). o.world.state) (step_clear (Query p) w r))
+  passed_fate (Query p) r = stays (ap (λ (o : Outcome). thread_of o.world.state t) (step_clear (Query p) w r))
   passed_fate (SetPriority p i n) r = priority_fate p i n r
-  passed_fate (OwnerWait x) r = call_fate (as_owner_wait x) r
-  passed_fate (OwnerWake p i a) r = call_fate (as_owner_wake p i a) r
-  passed_fate (OwnerRequeue x) r = call_fate (as_owner_requeue x) r
-  passed_fate (OwnerQuery p i a) r = still_fate (OwnerQuery p i a) (ap (λ (o : Outcome). o.world.state) (step_clear (OwnerQuery p i a) w r))
 
 -- There is no other way.
 pub fate : (e : Event) (w : World) (t : ℕ) → Fate e w t
 fate e w t = verdicts e w
-    (λ x r. still_fate w t e (ap (λ (o : Outcome). o.world.state) (step_refused e w x r)))
+    (λ x r. stays (ap (λ (o : Outcome). thread_of o.world.state t) (step_refused e w x r)))
     (λ r. passed_fate w t e r)

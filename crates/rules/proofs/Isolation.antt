@@ -8,39 +8,29 @@ use lib.ListN.{length, get_or}
 use borrow.Author.Tests.{eqb-true, eqb-false, lt-leb}
 use Rattle.lists.proofs.Tests.{cases, clash}
 use Rattle.lists.proofs.Update.{update_alike}
-use Rattle.rules.specs.declared.event.Call.{Call}
-use Rattle.rules.specs.declared.event.Owning.{Owning}
 use Rattle.rules.specs.declared.event.Event.{Event}
-use Rattle.rules.specs.declared.event.Event.TheVariants.{Call as CallEvent, Store, Clock, Interrupt, Query, SetPriority, OwnerWait, OwnerWake, OwnerRequeue, OwnerQuery}
+use Rattle.rules.specs.declared.event.Event.TheVariants.{Call as CallEvent, Store, Clock, Interrupt, Query, SetPriority}
 use Rattle.tables.specs.Sizes.{words_per_process, word_bytes, bytes_per_process}
-use Rattle.tables.specs.Tables.{World, thread_number, word_number, word_at, thread_of, arrivals, owner_of}
+use Rattle.tables.specs.Tables.{World, thread_number, word_number, word_at, thread_of, arrivals}
 use Rattle.rules.specs.Answers.{Outcome}
 use Rattle.rules.specs.Events.{step}
 use Rattle.rules.specs.History.{start, final, Named, process, nobody, named, is_kept, is_process, belongs, kept_for, answers_to}
-use Rattle.rules.specs.Claims.{Alike, Asks, as_call, as_owner_wait, as_owner_wake, as_owner_requeue}
+use Rattle.rules.specs.Claims.{Alike}
 use Rattle.rules.proofs.Preserved.{Valid, step_valid}
-use Rattle.rules.proofs.View.{view_state_lem, own_word, only_own, view_state, view, own_thread_lem, view_own, view_arrivals, view_word, view_owner}
-use Rattle.rules.proofs.Own.{view_out}
-use Rattle.rules.proofs.Other.{asks_named, step_other}
-use Rattle.rules.proofs.Steps.{step_asked, step_owner, step_store, step_interrupt, step_query, step_priority, step_clock}
+use Rattle.rules.proofs.View.{view_state_lem, own_word, only_own, view_state, view, own_thread_lem, view_own, view_arrivals, view_word}
+use Rattle.rules.proofs.Own.{view_out, step_call, step_store, step_interrupt, step_query, step_priority, step_clock}
+use Rattle.rules.proofs.Other.{step_other}
 
 module _ (p : ℕ) where
   -- the process's own event, and one that is kept, on the view; and one that is struck
-  own_call : {e : Event} {c : Call} {o : Owning} → Asks e c o → (w : World) → Valid w → belongs p e ≡ true → view_out p (step e w) ≡ step e (view p w)
-  own_call {e} {c} is w g n =
-      subst (λ q. view_out q (step e w) ≡ step e (view q w)) (eqb-true c.process p (ap (is_process p) (sym (asks_named is)) ∙ n)) (step_asked w g is)
-
   pub own_step : (e : Event) (w : World) → Valid w → belongs p e ≡ true → view_out p (step e w) ≡ step e (view p w)
-  own_step (CallEvent c) w g n = own_call (as_call c) w g n
+  own_step (CallEvent c) w g n =
+      subst (λ q. view_out q (step (CallEvent c) w) ≡ step (CallEvent c) (view q w)) (eqb-true c.process p n) (step_call w g c)
   own_step (Store q a v) w g n = rw (eqb-true q p n) (step_store w g p a v)
   own_step (Clock now) w g n = clash true refl (sym n)
   own_step (Interrupt q i) w g n = rw (eqb-true q p n) (step_interrupt w g p i)
   own_step (Query q) w g n = rw (eqb-true q p n) (step_query w g p)
   own_step (SetPriority q i m) w g n = rw (eqb-true q p n) (step_priority w g p i m)
-  own_step (OwnerWait x) w g n = own_call (as_owner_wait x) w g n
-  own_step (OwnerWake q i a) w g n = own_call (as_owner_wake q i a) w g n
-  own_step (OwnerRequeue x) w g n = own_call (as_owner_requeue x) w g n
-  own_step (OwnerQuery q i a) w g n = rw (eqb-true q p n) (step_owner w g p i a)
 
   pub kept_step : (e : Event) (w : World) → Valid w → is_kept p (named e) ≡ true → view p (step e w).world ≡ (step e (view p w)).world
   kept_step (CallEvent c) w g n = ap (λ (o : Outcome). o.world) (own_step (CallEvent c) w g n)
@@ -49,10 +39,6 @@ module _ (p : ℕ) where
   kept_step (Interrupt q i) w g n = ap (λ (o : Outcome). o.world) (own_step (Interrupt q i) w g n)
   kept_step (Query q) w g n = ap (λ (o : Outcome). o.world) (own_step (Query q) w g n)
   kept_step (SetPriority q i m) w g n = ap (λ (o : Outcome). o.world) (own_step (SetPriority q i m) w g n)
-  kept_step (OwnerWait x) w g n = ap (λ (o : Outcome). o.world) (own_step (OwnerWait x) w g n)
-  kept_step (OwnerWake q i a) w g n = ap (λ (o : Outcome). o.world) (own_step (OwnerWake q i a) w g n)
-  kept_step (OwnerRequeue x) w g n = ap (λ (o : Outcome). o.world) (own_step (OwnerRequeue x) w g n)
-  kept_step (OwnerQuery q i a) w g n = ap (λ (o : Outcome). o.world) (own_step (OwnerQuery q i a) w g n)
 
   pub struck_step : (e : Event) (w : World) → is_kept p (named e) ≡ false → view p (step e w).world ≡ view p w
   struck_step e w n = go (named e) refl n
@@ -88,7 +74,6 @@ module _ (p : ℕ) where
         records = λ i h.
             let own = own_thread_lem p i h in
             sym (view_own p u.state (thread_number p i) own) ∙ ap (λ s. thread_of s (thread_number p i)) states ∙ view_own p v.state (thread_number p i) own;
-        owners = λ a. sym (view_owner p a u.state) ∙ ap (owner_of p a) states ∙ view_owner p a v.state;
         order = sym (view_arrivals p u.state) ∙ ap arrivals states ∙ view_arrivals p v.state;
       }
     where

@@ -4,12 +4,10 @@ pub mod Commands
 pub mod Passed
 pub mod Chosen
 pub mod Preserved
-pub mod OwnWord
 pub mod Refused
 pub mod Sleeps
 pub mod Took
 pub mod Taken
-pub mod OwnersAfter
 pub mod Local
 pub mod Fate
 pub mod Requeued
@@ -18,7 +16,6 @@ pub mod Priorities
 pub mod View
 pub mod Own
 pub mod Other
-pub mod Steps
 pub mod Isolation
 pub mod Determined
 pub mod Alike

@@ -11,19 +11,18 @@ use Rattle.tables.specs.declared.Thread.{Thread}
 use Rattle.rules.specs.declared.event.Command.{Command}
 use Rattle.rules.specs.declared.event.Command.TheVariants.{WakeOp}
 use Rattle.rules.specs.declared.event.Call.{Call}
-use Rattle.rules.specs.declared.event.Owning.{Owning}
-use Rattle.rules.specs.declared.event.Event.{Event}
+use Rattle.rules.specs.declared.event.Event.TheVariants.{Call as CallEvent}
 use Rattle.rules.specs.declared.answer.Answer.TheVariants.{Count}
 use Rattle.tables.specs.Editions.{present}
 use Rattle.tables.specs.Tables.{World, thread_of, queue}
 use Rattle.rules.specs.Answers.{Outcome}
 use Rattle.rules.specs.Commands.{command_of, uses}
 use Rattle.rules.specs.Calls.{is_wake_op, ordered, matches, second_cap, candidates_in, candidates, released_in, released, moved_in, moved, released_second, wait, wake, requeue, wake_op, call_effect}
-use Rattle.rules.specs.Events.{step}
-use Rattle.rules.specs.Claims.{SameSleepers, NamedAlike, Asks}
+use Rattle.rules.specs.Events.{effect, step}
+use Rattle.rules.specs.Claims.{SameSleepers, NamedAlike}
 use Rattle.rules.proofs.Commands.{by_command}
 use Rattle.rules.proofs.Chosen.{ordered_agree}
-use Rattle.rules.proofs.Rows.{asks_effect, counted_done}
+use Rattle.rules.proofs.Rows.{counted_done}
 
 candidates_alike : (q : Thread → Bool) (p a : ℕ) (s u : State) → SameSleepers p a s u → candidates q p a s ≡ candidates q p a u
 unfolding candidates_in
@@ -49,9 +48,9 @@ module _ (k : Command) (c : Call) (w v : World) (h : NamedAlike k c w v) where
   second_alike two op =
       cc (h.word op, released_alike, candidates_alike (matches k c) c.process c.uaddr2 w.state v.state (h.second two))
 
-answer_alike : (k : Command) (c : Call) (o : Owning) (w v : World) → NamedAlike k c w v → (call_effect k c o w).answer ≡ (call_effect k c o v).answer
+answer_alike : (k : Command) (c : Call) (w v : World) → NamedAlike k c w v → (call_effect k c w).answer ≡ (call_effect k c v).answer
 unfolding wait wake requeue wake_op
-answer_alike k c o w v = by_command (λ k f. NamedAlike k c w v → (f c o w).answer ≡ (f c o v).answer)
+answer_alike k c w v = by_command (λ k f. NamedAlike k c w v → (f c w).answer ≡ (f c v).answer)
     (λ k i h. refl)
     (λ k h. ap (λ l. Count (length l)) (released_alike k c w v h))
     (λ k h. cc (released_alike k c w v h, moved_alike k c w v h))
@@ -59,8 +58,9 @@ answer_alike k c o w v = by_command (λ k f. NamedAlike k c w v → (f c o w).an
     (λ h. refl)
     k
 
-pub count_local : {e : Event} {c : Call} {o : Owning} → Asks e c o → (w v : World) (m n : ℕ) → NamedAlike (command_of c.op) c w v
-    → (step e w).answer ≡ Count m → (step e v).answer ≡ Count n → m ≡ n
-count_local {e} {c} {o} is w v m n h a b =
-    let same : (call_effect (command_of c.op) c o w).answer ≡ (call_effect (command_of c.op) c o v).answer = answer_alike (command_of c.op) c o w v h in
-    cc (a, b, ap (λ (o : Outcome). o.answer) (counted_done e w m a ∙ asks_effect is w), ap (λ (o : Outcome). o.answer) (counted_done e v n b ∙ asks_effect is v))
+pub count_local : (c : Call) (w v : World) (m n : ℕ) → NamedAlike (command_of c.op) c w v
+    → (step (CallEvent c) w).answer ≡ Count m → (step (CallEvent c) v).answer ≡ Count n → m ≡ n
+unfolding effect
+count_local c w v m n h a b =
+    let same : (call_effect (command_of c.op) c w).answer ≡ (call_effect (command_of c.op) c v).answer = answer_alike (command_of c.op) c w v h in
+    cc (a, b, ap (λ (o : Outcome). o.answer) (counted_done (CallEvent c) w m a), ap (λ (o : Outcome). o.answer) (counted_done (CallEvent c) v n b))

@@ -17,20 +17,20 @@ use Rattle.tables.specs.declared.LastAnswer.TheVariants.{Woken}
 use Rattle.rules.specs.declared.event.Command.{Command}
 use Rattle.rules.specs.declared.event.Command.TheVariants.{Wake}
 use Rattle.rules.specs.declared.event.Call.{Call}
-use Rattle.rules.specs.declared.event.Owning.{Owning}
 use Rattle.rules.specs.declared.event.Event.{Event}
+use Rattle.rules.specs.declared.event.Event.TheVariants.{Call as CallEvent}
 use Rattle.rules.specs.declared.answer.Answer.TheVariants.{Count}
 use Rattle.tables.specs.Editions.{present}
 use Rattle.tables.specs.Tables.{World, process_of, thread_of, arrivals, sleeps_at, queue_in, queue}
 use Rattle.rules.specs.Commands.{command_of, uses}
 use Rattle.rules.specs.Calls.{ordered, matches, candidates_in, released_in, released, moved}
-use Rattle.rules.specs.Events.{step}
+use Rattle.rules.specs.Events.{refusals, step}
 use Rattle.rules.specs.History.{final}
-use Rattle.rules.specs.Claims.{Asks, Took, woken_by, moved_by, Fate, stays, sleeps, wakes, moves, times_out, is_interrupted, is_set, asleep_there, Enters, by_wait, by_requeue, slept_through, Since}
+use Rattle.rules.specs.Claims.{Took, woken_by, moved_by, Fate, stays, sleeps, wakes, moves, times_out, is_interrupted, is_set, asleep_there, Enters, by_wait, by_requeue, slept_through, Since}
 use Rattle.tables.proofs.Sound.{Sound, listed_waiting}
 use Rattle.rules.proofs.Passed.{clear_passed}
 use Rattle.rules.proofs.Chosen.{candidate_own, moved_pass, ordered_length, ordered_elem}
-use Rattle.rules.proofs.Rows.{asks_rows, counted_clear}
+use Rattle.rules.proofs.Rows.{counted_clear}
 use Rattle.rules.proofs.Taken.{takes_first}
 use Rattle.rules.proofs.Requeued.{requeue_answered}
 use Rattle.rules.proofs.Fate.{fate}
@@ -58,12 +58,12 @@ module _ (t a : ℕ) where
     where
       go : Fate e w t → Enters t a e w
       go (stays same) = clash (asleep_there t a w) (ap (λ (r : Thread). r.waiting && eqb r.uaddr a) (sym same) ∙ now-asleep) was-not
-      go (sleeps is it s new) = by_wait is it (ap (λ (r : Thread). r.uaddr) (sym new) ∙ at_address (thread_of (step e w).world.state t) now-asleep) s
-      go (wakes is out new) = clash false (not_running (thread_of (step e w).world.state t) (ap (λ (r : Thread). r.waiting) new) now-asleep) refl
-      go (moves {c} is on new) =
+      go (sleeps c is it s new) = by_wait c is it (ap (λ (r : Thread). r.uaddr) (sym new) ∙ at_address (thread_of (step e w).world.state t) now-asleep) s
+      go (wakes c is out new) = clash false (not_running (thread_of (step e w).world.state t) (ap (λ (r : Thread). r.waiting) new) now-asleep) refl
+      go (moves c is on new) =
           let m = requeued c w on in
-          let n = requeue_answered is w m.0 (λ same. clash (asleep_there t a w) (ap (asleep_there t a) (sym same) ∙ now-asleep) was-not) in
-          by_requeue n.0 is n.1 m.0 m.1 (ap (λ (r : Thread). r.uaddr) (sym new) ∙ at_address (thread_of (step e w).world.state t) now-asleep) m.2
+          let n = requeue_answered c w m.0 (λ same. clash (asleep_there t a w) (ap (asleep_there t a) (sym (ap (λ x. (step x w).world) is ∙ same)) ∙ now-asleep) was-not) in
+          by_requeue c n.0 is (ap (λ x. (step x w).answer) is ∙ n.1) m.0 m.1 (ap (λ (r : Thread). r.uaddr) (sym new) ∙ at_address (thread_of (step e w).world.state t) now-asleep) m.2
       go (times_out now is late new) = clash false (not_running (thread_of (step e w).world.state t) (ap (λ (r : Thread). r.waiting) new) now-asleep) refl
       go (is_interrupted p i is it on new) = clash false (not_running (thread_of (step e w).world.state t) (ap (λ (r : Thread). r.waiting) new) now-asleep) refl
       go (is_set set) = clash (asleep_there t a w) (ap (λ (r : Thread). r.waiting && eqb r.uaddr a) (sym set.left) ∙ now-asleep) was-not
@@ -97,23 +97,24 @@ module _ (t a : ℕ) where
       }))
 
 -- A WAKE whose cap is not below the number of the word's sleepers leaves nobody asleep there.
-pub wake_empties : {e : Event} {c : Call} {o : Owning} → Asks e c o → (w : World) (n : ℕ) → command_of c.op ≡ Wake → (step e w).answer ≡ Count n
+pub wake_empties : (c : Call) (w : World) (n : ℕ) → command_of c.op ≡ Wake → (step (CallEvent c) w).answer ≡ Count n
     → length (queue c.process c.uaddr w.state) ≤ c.val
-    → (t : ℕ) → process_of t ≡ c.process → asleep_there t c.uaddr (step e w).world ≡ false
-wake_empties {e} {c} {o} is w n wake h enough t own = cases (elem t (woken_by k c w))
-    (λ d. rw (took.ran t d))
-    (λ d. cases (asleep_there t c.uaddr w)
-    (λ was. clash (elem t (woken_by k c w)) (awake was) d)
-    (λ was-not. ap (λ (r : Thread). r.waiting && eqb r.uaddr c.uaddr) (took.stayed t d (rw wake)) ∙ was-not))
+    → (t : ℕ) → process_of t ≡ c.process → asleep_there t c.uaddr (step (CallEvent c) w).world ≡ false
+unfolding refusals
+wake_empties c w n wake h enough t own = cases (elem t (woken_by k c w))
+    (λ e. rw (took.ran t e))
+    (λ e. cases (asleep_there t c.uaddr w)
+    (λ was. clash (elem t (woken_by k c w)) (awake was) e)
+    (λ was-not. rw (took.stayed t e (rw wake)) was-not))
   where
     k : Command
     k = command_of c.op
 
-    took : Took Woken (woken_by k c w) (moved_by k c w) c.uaddr2 w.state (step e w).world.state
-    took = (takes_first is w n h).took
+    took : Took Woken (woken_by k c w) (moved_by k c w) c.uaddr2 w.state (step (CallEvent c) w).world.state
+    took = (takes_first c w n h).took
 
     g : Sound w.state
-    g = (clear_passed c o w (rw (asks_rows is w) at (counted_clear e w n h))).sound
+    g = (clear_passed c w (counted_clear (CallEvent c) w n h)).sound
 
     here : asleep_there t c.uaddr w ≡ true → sleeps_at c.process c.uaddr w.state t ≡ true
     here was = and_intro (eq-eqb (process_of t) c.process own) was

@@ -1,7 +1,7 @@
 -- What an event is answered, by the paper's numbers: the first row that applies, and else what the event does.
 use mathlib.Core.Path.{◌≡◌, refl, sym, ap, ◌∙◌}
 use mathlib.Core.Bool.{true, false}
-use mathlib.Core.List.{List, [], ◌∷◌, ◌++◌}
+use mathlib.Core.List.{List, [], ◌∷◌}
 use Prim.Native.Nat.{◌<◌, ◌≤◌}
 use native.Mathlib.Omega.{arith}
 use native.Mathlib.Nat.{add-zero}
@@ -11,22 +11,21 @@ use Rattle.lists.proofs.Tests.{cases, clash}
 use Rattle.rules.specs.declared.event.Command.{Command}
 use Rattle.rules.specs.declared.event.Command.TheVariants.{Wait, Wake, Requeue, CmpRequeue, WakeOp, WaitBitset, WakeBitset, Unknown}
 use Rattle.rules.specs.declared.event.Call.{Call}
-use Rattle.rules.specs.declared.event.Owning.{Owning}
 use Rattle.rules.specs.declared.event.Event.{Event}
-use Rattle.rules.specs.declared.event.Event.TheVariants.{Call as CallEvent, Store, Clock, Interrupt, Query, SetPriority, OwnerWait, OwnerWake, OwnerRequeue, OwnerQuery}
+use Rattle.rules.specs.declared.event.Event.TheVariants.{Call as CallEvent, Store, Clock, Interrupt, Query, SetPriority}
 use Rattle.rules.specs.declared.answer.Errno.{Errno}
 use Rattle.rules.specs.declared.answer.Errno.TheVariants.{ENXIO, EBADF, ESRCH, EBUSY, ENOSYS, EINVAL, EFAULT, EAGAIN, ETIMEDOUT}
 use Rattle.rules.specs.declared.answer.Reason.TheVariants.{NoReason}
 use Rattle.rules.specs.declared.answer.Answer.{Answer}
-use Rattle.rules.specs.declared.answer.Answer.TheVariants.{Asleep, Count, Refused, Waiting, Owner}
+use Rattle.rules.specs.declared.answer.Answer.TheVariants.{Asleep, Count, Refused, Waiting}
 use Rattle.tables.specs.Tables.{World, thread_number, thread_of}
 use Rattle.rules.specs.Answers.{Row, Outcome, errno_number, answer_numbers, reason_of, first, judged}
 use Rattle.rules.specs.Commands.{command_of}
-use Rattle.rules.specs.Calls.{first_rows, released, wait, wake, requeue, wake_op, call_effect, asked_rows}
-use Rattle.rules.specs.Events.{is_query, refusals, clock_effect, interrupt_effect, panel_in, performed, effect, step}
-use Rattle.rules.specs.Numbers.{done, numbers_of_call, numbers_of}
+use Rattle.rules.specs.Calls.{released, rows_in, wait, wake, requeue, wake_op, call_effect}
+use Rattle.rules.specs.Events.{is_query, refusals, clock_effect, interrupt_effect, panel_in, effect, step}
+use Rattle.rules.specs.Numbers.{done, numbers_of}
 use Rattle.rules.specs.Before.{step_without_reasons, without_reason}
-use Rattle.rules.proofs.Arguments.{by_errno, table_one}
+use Rattle.rules.proofs.Arguments.{by_errno, arguments_one}
 use Rattle.rules.proofs.Before.{as_before_reasons}
 
 abbrev refuse_by : List Row → List ℤ → List ℤ
@@ -40,36 +39,25 @@ step_number : (e : Event) (w : World) → answer_numbers (step e w).answer ≡ r
 unfolding step
 step_number e w = judged_number (refusals e w) (effect e w) w
 
-call_done : (k : Command) (c : Call) (o : Owning) (w : World) → answer_numbers (call_effect k c o w).answer ≡ done k c w
+call_done : (k : Command) (c : Call) (w : World) → answer_numbers (call_effect k c w).answer ≡ done k c w
 unfolding call_effect wait wake requeue wake_op
-call_done Wait c o w = refl
-call_done WaitBitset c o w = refl
-call_done Wake c o w = refl
-call_done WakeBitset c o w = refl
-call_done Requeue c o w = ap (λ n. pos n ∷ []) (add-zero (length (released Requeue c w.state)))
-call_done CmpRequeue c o w = refl
-call_done WakeOp c o w = refl
-call_done Unknown c o w = refl
-
-call_numbers : (c : Call) (o : Owning) (w : World) (below : List ℤ) → refuse_by (first_rows w ++ asked_rows c o w) below ≡ numbers_of_call c o w below
-call_numbers c o w below = rw (table_one (λ x. neg_ℤ (pos (errno_number x)) ∷ []) c o _ _ _ _ below)
-
-performed_numbers : (c : Call) (o : Owning) (w : World)
-    → refuse_by (first_rows w ++ asked_rows c o w) (answer_numbers (performed c o w).answer) ≡ numbers_of_call c o w (done (command_of c.op) c w)
-performed_numbers c o w = rw (call_numbers c o w (answer_numbers (performed c o w).answer), call_done (command_of c.op) c o w)
+call_done Wait c w = refl
+call_done WaitBitset c w = refl
+call_done Wake c w = refl
+call_done WakeBitset c w = refl
+call_done Requeue c w = ap (λ n. pos n ∷ []) (add-zero (length (released Requeue c w.state)))
+call_done CmpRequeue c w = refl
+call_done WakeOp c w = refl
+call_done Unknown c w = refl
 
 effect_number : (e : Event) (w : World) → refuse_by (refusals e w) (answer_numbers (effect e w).answer) ≡ numbers_of e w
-unfolding numbers_of refusals effect clock_effect interrupt_effect panel_in
-effect_number (CallEvent c) w = performed_numbers c _ w
+unfolding numbers_of refusals rows_in effect clock_effect interrupt_effect panel_in
+effect_number (CallEvent c) w = rw (arguments_one (λ x. neg_ℤ (pos (errno_number x)) ∷ []) (command_of c.op) c _ _, call_done (command_of c.op) c w)
 effect_number (Store p a v) w = refl
 effect_number (Clock now) w = refl
 effect_number (Interrupt p i) w = cases (thread_of w.state (thread_number p i)).waiting (λ e. rw e) (λ e. rw e)
 effect_number (Query p) w = refl
 effect_number (SetPriority p i n) w = refl
-effect_number (OwnerWait x) w = performed_numbers _ _ w
-effect_number (OwnerWake p i a) w = performed_numbers _ _ w
-effect_number (OwnerRequeue x) w = performed_numbers _ _ w
-effect_number (OwnerQuery p i a) w = call_numbers _ _ w _
 
 pub by_number : (e : Event) (w : World) → answer_numbers (step e w).answer ≡ numbers_of e w
 by_number e w = step_number e w ∙ effect_number e w
@@ -102,21 +90,14 @@ done_one CmpRequeue c w = refl
 done_one WakeOp c w = refl
 done_one Unknown c w = refl
 
-performed_one : (c : Call) (o : Owning) (w : World) → length (answer_numbers (performed c o w).answer) ≡ 1
-performed_one c o w = ap length (call_done (command_of c.op) c o w) ∙ done_one (command_of c.op) c w
-
 effect_one : (e : Event) (w : World) → is_query e ≡ false → length (answer_numbers (effect e w).answer) ≡ 1
 unfolding effect clock_effect interrupt_effect
-effect_one (CallEvent c) w some = performed_one c _ w
+effect_one (CallEvent c) w some = ap length (call_done (command_of c.op) c w) ∙ done_one (command_of c.op) c w
 effect_one (Store p a v) w some = refl
 effect_one (Clock now) w some = refl
 effect_one (Interrupt p i) w some = cases (thread_of w.state (thread_number p i)).waiting (λ e. rw e) (λ e. rw e)
 effect_one (Query p) w some = clash true refl some
 effect_one (SetPriority p i n) w some = refl
-effect_one (OwnerWait x) w some = performed_one _ _ w
-effect_one (OwnerWake p i a) w some = performed_one _ _ w
-effect_one (OwnerRequeue x) w some = performed_one _ _ w
-effect_one (OwnerQuery p i a) w some = refl
 
 pub answered_once : (e : Event) (w : World) → is_query e ≡ false → length (answer_numbers (step e w).answer) ≡ 1
 answered_once e w some = ap length (step_number e w) ∙ refused_one (refusals e w) (answer_numbers (effect e w).answer) (effect_one e w some)
@@ -127,7 +108,6 @@ plain_number Asleep = (refl, refl)
 plain_number (Count n) = (refl, refl)
 plain_number (Refused x) = (refl, refl)
 plain_number (Waiting v) = (refl, refl)
-plain_number (Owner n) = (refl, refl)
 
 pub before_numbers : (e : Event) (w : World) → (answer_numbers (step_without_reasons e w).answer ≡ numbers_of e w) × (reason_of (step_without_reasons e w).answer ≡ NoReason)
 before_numbers e w =

@@ -20,8 +20,7 @@ use Rattle.tables.specs.declared.State.{State}
 use Rattle.tables.specs.declared.LastAnswer.TheVariants.{Woken}
 use Rattle.rules.specs.declared.event.Command.{Command}
 use Rattle.rules.specs.declared.event.Call.{Call}
-use Rattle.rules.specs.declared.event.Owning.{Owning}
-use Rattle.rules.specs.declared.event.Event.{Event}
+use Rattle.rules.specs.declared.event.Event.TheVariants.{Call as CallEvent}
 use Rattle.rules.specs.declared.answer.Answer.TheVariants.{Count}
 use Rattle.tables.specs.Sizes.{threads, max_priority}
 use Rattle.tables.specs.Editions.{by_priority, present}
@@ -30,9 +29,9 @@ use Rattle.rules.specs.Commands.{command_of}
 use Rattle.rules.specs.WakeOp.{compares}
 use Rattle.rules.specs.Calls.{second_cap, ordered, matches, candidates, released_in, released, moved_in, moved, released_second}
 use Rattle.rules.specs.Events.{step}
-use Rattle.rules.specs.Claims.{Asks, GoesBefore, before, after}
+use Rattle.rules.specs.Claims.{GoesBefore, before, after}
 use Rattle.tables.proofs.Sound.{Sound, once, none_above, listed_waiting, priority_kept}
-use Rattle.rules.proofs.Rows.{asks_rows, counted_clear}
+use Rattle.rules.proofs.Rows.{counted_clear}
 use Rattle.rules.proofs.Passed.{clear_passed}
 use Rattle.rules.proofs.Chosen.{candidates_are, ordered_length, at_first, at_second}
 use Rattle.rules.proofs.Taken.{takes_first}
@@ -161,12 +160,11 @@ second_overtaken k c w g t fits u out is =
         ∙ ap (ordered by_priority s) (filter_filter (λ x. not (elem x gone)) (at_second present k c s) (arrivals s))
 
 -- a call that is answered a count, and whose cap is above 0, ends the sleep of whoever has a higher priority than all others that it may take
-pub leader_runs : {e : Event} {c : Call} {o : Owning} → Asks e c o → (w : World) (n t : ℕ) → (step e w).answer ≡ Count n → 0 < c.val
-    → at_first present (command_of c.op) c w.state t ≡ true
+pub leader_runs : (c : Call) (w : World) (n t : ℕ) → (step (CallEvent c) w).answer ≡ Count n → 0 < c.val → at_first present (command_of c.op) c w.state t ≡ true
     → ((u : ℕ) → at_first present (command_of c.op) c w.state u ≡ true → (u ≡ t → ⊥) → (before w u).priority < (before w t).priority)
-    → after e w t ≡ ended Woken (before w t)
-leader_runs {e} {c} {o} is w n t h some fits least =
+    → after (CallEvent c) w t ≡ ended Woken (before w t)
+leader_runs c w n t h some fits least =
     let k = command_of c.op in
-    let g = (clear_passed c o w (rw (asks_rows is w) at (counted_clear e w n h))).sound in
+    let g = (clear_passed c w (counted_clear (CallEvent c) w n h)).sound in
     let first = released_leads k c w.state g t fits least some in
-    (takes_first is w n h).took.ran t (elem_append t (released k c w.state) _ ∙ rw (first.1, eqb_refl t))
+    (takes_first c w n h).took.ran t (elem_append t (released k c w.state) _ ∙ rw (first.1, eqb_refl t))

@@ -1,6 +1,6 @@
 -- An event that names another process leaves the view as it was.
 use mathlib.Core.Path.{◌≡◌, refl, sym, ap, ◌∙◌}
-use mathlib.Core.Bool.{Bool, true, false}
+use mathlib.Core.Bool.{true}
 use mathlib.Core.List.{List, [], ◌∷◌, ◌++◌}
 use Prim.Native.Nat.{ℕ}
 use borrow.Author.Tests.{eqb-true, ne_eqb}
@@ -13,23 +13,19 @@ use Rattle.tables.specs.declared.LastAnswer.TheVariants.{Woken, Interrupted}
 use Rattle.rules.specs.declared.event.Command.{Command}
 use Rattle.rules.specs.declared.event.Command.TheVariants.{WakeOp}
 use Rattle.rules.specs.declared.event.Call.{Call}
-use Rattle.rules.specs.declared.event.Owning.{Owning}
 use Rattle.rules.specs.declared.event.Event.{Event}
-use Rattle.rules.specs.declared.event.Event.TheVariants.{Call as CallEvent, Store, Clock, Interrupt, Query, SetPriority, OwnerWait, OwnerWake, OwnerRequeue, OwnerQuery}
-use Rattle.tables.specs.Sizes.{no_owner}
-use Rattle.tables.specs.Editions.{present}
-use Rattle.tables.specs.Tables.{World, thread_number, process_of, thread_of, end_sleeps, move_sleeps, set_owner, with_state}
+use Rattle.rules.specs.declared.event.Event.TheVariants.{Call as CallEvent, Store, Clock, Interrupt, Query, SetPriority}
+use Rattle.tables.specs.Tables.{World, thread_number, process_of, thread_of, end_sleeps, move_sleeps, with_state}
 use Rattle.rules.specs.Commands.{command_of, uses}
-use Rattle.rules.specs.WakeOp.{compares}
-use Rattle.rules.specs.Calls.{caller, released, moved, old_word, released_second, wait, wake, requeue, clear_if, wake_op, call_effect}
+use Rattle.rules.specs.Calls.{caller, released, moved, released_second, wait, wake, requeue, wake_op, call_effect}
 use Rattle.rules.specs.Events.{refusals, interrupt_effect, effect, step}
 use Rattle.rules.specs.History.{process, named}
-use Rattle.rules.specs.Claims.{Clear, Asks, as_call, as_owner_wait, as_owner_wake, as_owner_requeue}
+use Rattle.rules.specs.Claims.{Clear}
 use Rattle.rules.proofs.Commands.{by_command}
-use Rattle.rules.proofs.Rows.{asks_rows, asks_effect, step_keeps}
-use Rattle.rules.proofs.Passed.{clear_passed, thread_index, uaddr2_inside}
-use Rattle.rules.proofs.View.{own_thread, view_state, view, own_thread_lem, other_thread, view_end, view_move, view_sleep_other, view_priority_other, view_set_other, view_write_other, end_none, move_none}
-use Rattle.rules.proofs.Own.{Placed, placed, released_own, moved_own, second_own}
+use Rattle.rules.proofs.Rows.{step_keeps}
+use Rattle.rules.proofs.Passed.{Passed, clear_passed, thread_index, uaddr2_inside}
+use Rattle.rules.proofs.View.{own_thread, view_state, view, own_thread_lem, other_thread, view_end, view_move, view_sleep_other, view_priority_other, view_write_other, end_none, move_none}
+use Rattle.rules.proofs.Own.{released_own, moved_own, second_own}
 
 module _ (p q : ℕ) (apart : p ≡ q → ⊥) where
   -- threads of the other process are none of the process's
@@ -48,65 +44,37 @@ same_view : (p : ℕ) (s : State) (w : World) → view_state p s ≡ view_state 
 unfolding view
 same_view p s w e = cc
 
-module _ (p : ℕ) (k : Command) (c : Call) (o : Owning) (w : World) (apart : p ≡ c.process → ⊥) (g : Placed k c) where
-  set_other : (a n : ℕ) (s : State) → view_state p (set_owner c.process a n s) ≡ view_state p s
-  set_other a n s = view_set_other p c.process a n s apart
-
-  wait_other : view p (wait k c o w).world ≡ view p w
+module _ (p : ℕ) (k : Command) (c : Call) (w : World) (apart : p ≡ c.process → ⊥) (g : Passed k c w) where
+  wait_other : view p (wait k c w).world ≡ view p w
   unfolding wait
-  wait_other = same_view p _ w
-      (set_other c.uaddr _ _ ∙ view_sleep_other p _ (caller c) w.state (other_thread p c.process c.index apart g.index))
+  wait_other = same_view p _ w (view_sleep_other p _ (caller c) w.state (other_thread p c.process c.index apart g.index))
 
-  wake_other : view p (wake k c o w).world ≡ view p w
+  wake_other : view p (wake k c w).world ≡ view p w
   unfolding wake
-  wake_other = same_view p _ w
-      (set_other c.uaddr _ _ ∙ end_other p c.process apart Woken (released k c w.state) w.state (released_own k c w.state))
+  wake_other = same_view p _ w (end_other p c.process apart Woken (released k c w.state) w.state (released_own k c w.state))
 
-  requeue_other : view p (requeue k c o w).world ≡ view p w
+  requeue_other : view p (requeue k c w).world ≡ view p w
   unfolding requeue
   requeue_other = same_view p _ w
-      (set_other c.uaddr2 _ _
-      ∙ set_other c.uaddr _ _
-      ∙ move_other p c.process apart c.uaddr2 (moved k c w.state) _ (moved_own k c w.state)
+      (move_other p c.process apart c.uaddr2 (moved k c w.state) _ (moved_own k c w.state)
       ∙ end_other p c.process apart Woken (released k c w.state) w.state (released_own k c w.state))
-
-  clear_other : (holds : Bool) (s : State) → view_state p (clear_if present holds c s) ≡ view_state p s
-  clear_other true s = set_other c.uaddr2 no_owner s
-  clear_other false s = refl
 
   wake_op_other : (uses k).second ≡ true → view p (wake_op k c w).world ≡ view p w
   unfolding wake_op
   wake_op_other two =
       let out = released k c w.state ++ released_second k c w in
-      let holds = compares c.val3 (old_word c w) in
-      let cleared = set_owner c.process c.uaddr no_owner (end_sleeps Woken out w.state) in
-      view_write_other p c.process c.uaddr2 _ (with_state (clear_if present holds c cleared) w) apart (uaddr2_inside k c g.addresses two)
-      ∙ same_view p _ w
-      (clear_other holds cleared
-      ∙ set_other c.uaddr no_owner (end_sleeps Woken out w.state)
-      ∙ end_other p c.process apart Woken out w.state
+      view_write_other p c.process c.uaddr2 _ (with_state (end_sleeps Woken out w.state) w) apart (uaddr2_inside k c g.addresses two)
+      ∙ same_view p _ w (end_other p c.process apart Woken out w.state
       (all_append (own_thread c.process) (released k c w.state) (released_second k c w) (released_own k c w.state) (second_own k c w)))
 
-pub call_other : (p : ℕ) (k : Command) (c : Call) (o : Owning) (w : World) → (p ≡ c.process → ⊥) → Placed k c → view p (call_effect k c o w).world ≡ view p w
-call_other p = by_command (λ k f. (c : Call) (o : Owning) (w : World) → (p ≡ c.process → ⊥) → Placed k c → view p (f c o w).world ≡ view p w)
-    (λ k i. wait_other p k) (wake_other p) (requeue_other p) (λ c o w apart g. wake_op_other p WakeOp c o w apart g refl) (λ c o w apart g. refl)
-
--- a call is the process's that it names
-pub asks_named : {e : Event} {c : Call} {o : Owning} → Asks e c o → named e ≡ process c.process
-asks_named (as_call c) = refl
-asks_named (as_owner_wait x) = refl
-asks_named (as_owner_wake p i a) = refl
-asks_named (as_owner_requeue x) = refl
-
-asked_other : (p q : ℕ) → (p ≡ q → ⊥) → {e : Event} {c : Call} {o : Owning} → Asks e c o → named e ≡ process q → (w : World) → Clear (refusals e w)
-    → view p (effect e w).world ≡ view p w
-asked_other p q apart {e} {c} {o} is it w h =
-    let d : c.process ≡ q = cc (asks_named is) in
-    rw (asks_effect is w) (call_other p (command_of c.op) c o w (λ f. apart (f ∙ d)) (placed (clear_passed c o w (rw (asks_rows is w) at h))))
+call_other : (p : ℕ) (k : Command) (c : Call) (w : World) → (p ≡ c.process → ⊥) → Passed k c w → view p (call_effect k c w).world ≡ view p w
+call_other p = by_command (λ k f. (c : Call) (w : World) → (p ≡ c.process → ⊥) → Passed k c w → view p (f c w).world ≡ view p w)
+    (λ k i. wait_other p k) (wake_other p) (requeue_other p) (λ c w apart g. wake_op_other p WakeOp c w apart g refl) (λ c w apart g. refl)
 
 effect_other : (p q : ℕ) → (p ≡ q → ⊥) → (e : Event) → named e ≡ process q → (w : World) → Clear (refusals e w) → view p (effect e w).world ≡ view p w
 unfolding effect refusals interrupt_effect
-effect_other p q apart (CallEvent c) is w h = asked_other p q apart (as_call c) is w h
+effect_other p q apart (CallEvent c) is w h =
+    call_other p (command_of c.op) c w (λ e. apart (let d : c.process ≡ q = cc in e ∙ d)) (clear_passed c w h)
 effect_other p q apart (Store r a v) is w h =
     view_write_other p r a v w (λ e. apart (let d : r ≡ q = cc in e ∙ d)) h.1.1.1.1.0
 effect_other p q apart (Clock now) is w h = never (cc)
@@ -121,10 +89,6 @@ effect_other p q apart (Query r) is w h = refl
 effect_other p q apart (SetPriority r i n) is w h =
     let d : r ≡ q = cc in
     same_view p _ w (view_priority_other p n (thread_number r i) w.state (other_thread p r i (λ f. apart (f ∙ d)) (thread_index r i h.1.1.0)))
-effect_other p q apart (OwnerWait x) is w h = asked_other p q apart (as_owner_wait x) is w h
-effect_other p q apart (OwnerWake r i a) is w h = asked_other p q apart (as_owner_wake r i a) is w h
-effect_other p q apart (OwnerRequeue x) is w h = asked_other p q apart (as_owner_requeue x) is w h
-effect_other p q apart (OwnerQuery r i a) is w h = refl
 
 pub step_other : (p q : ℕ) → (p ≡ q → ⊥) → (e : Event) → named e ≡ process q → (w : World) → view p (step e w).world ≡ view p w
 step_other p q apart e is w = step_keeps (λ v. view p v ≡ view p w) e w refl (effect_other p q apart e is w)

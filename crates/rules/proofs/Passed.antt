@@ -1,9 +1,8 @@
 -- A call that no row of the table of answers refuses: what is then known of it.
-use mathlib.Core.Path.{◌≡◌, ap, ◌∙◌}
+use mathlib.Core.Path.{◌≡◌, ap}
 use mathlib.Core.Bool.{true, false, not, ◌&&◌}
-use mathlib.Core.List.{◌++◌}
 use Prim.Native.Nat.{ℕ, ◌+◌, ◌*◌, ◌≤◌, ◌<◌}
-use native.Mathlib.Nat.{mul-le-mul_left, mul-add-div, div-eq_of_lt}
+use native.Mathlib.Nat.{mul-le-mul_left}
 use native.Mathlib.Omega.{arith}
 use lib.ListN.{length}
 use lib.Dec.{eqb, leb}
@@ -11,22 +10,21 @@ use borrow.Author.Tests.{eqb-true, eq-eqb, leb-false, lt-leb, not-false}
 use Rattle.lists.proofs.Tests.{or_left, or_right, or_intro}
 use Rattle.rules.specs.declared.event.Command.{Command}
 use Rattle.rules.specs.declared.event.Call.{Call}
-use Rattle.rules.specs.declared.event.Owning.{Owning}
+use Rattle.rules.specs.declared.event.Event.TheVariants.{Call as CallEvent}
 use Rattle.tables.specs.Sizes.{processes, threads_per_process, threads, memory_words}
 use Rattle.tables.specs.Editions.{Edition, present, threads_in}
-use Rattle.tables.specs.Tables.{outside, WorldIn, process_in, thread_of, word_at, aligned, apart_in, tables_in}
+use Rattle.tables.specs.Tables.{outside, WorldIn, thread_of, word_at, aligned, tables_in}
 use Rattle.rules.specs.Commands.{command_of, not_implemented, is_unknown, bit_set, clock_bit, uses}
 use Rattle.rules.specs.WakeOp.{undefined_op}
-use Rattle.rules.specs.Calls.{wrong_memory, first_rows, no_process, no_thread_in, no_thread, caller_in, caller, argument_rows, bad_address, is_wake_op, differs, bad_owner_in, late, behind_rows, front_in, rows_in, call_effect, would_own, asked_rows}
+use Rattle.rules.specs.Calls.{wrong_memory, no_process, no_thread_in, no_thread, caller_in, caller, argument_rows, bad_address, is_wake_op, differs, late, rows_in}
+use Rattle.rules.specs.Events.{refusals}
 use Rattle.rules.specs.Claims.{Clear}
 use Rattle.rules.proofs.Rows.{clear_left, clear_right, clear_both, ◌and◌}
-use Rattle.tables.proofs.Sound.{SoundIn, sound_in}
-use Rattle.tables.proofs.Owners.{OwnedIn, tables_owned, sound_tables}
+use Rattle.tables.proofs.Sound.{SoundIn, sound_in, sound_tables}
 
-pub record Passed {ed : Edition} (k : Command) (c : Call) (o : Owning) (w : WorldIn ed) : Type 0 where
+pub record Passed {ed : Edition} (k : Command) (c : Call) (w : WorldIn ed) : Type 0 where
   pub memory : length w.words ≡ memory_words
   pub sound : SoundIn ed w.state
-  pub owned : OwnedIn ed w.state
   pub process : c.process < processes
   pub index : c.index < ed.per_process
   pub runs : (thread_of w.state (caller_in ed c)).waiting ≡ false
@@ -36,8 +34,6 @@ pub record Passed {ed : Edition} (k : Command) (c : Call) (o : Owning) (w : Worl
   pub addresses : bad_address k c ≡ false
   pub defined : (is_wake_op k && undefined_op c.val3) ≡ false
   pub equal : differs k c (word_at w c.process c.uaddr) ≡ false
-  pub named : bad_owner_in ed o ≡ false
-  pub apart : apart_in ed (call_effect k c o w).world.state ≡ true
   pub ahead : late k c w.state.clock ≡ false
 
 -- sound memory and tables, and a process and a thread that exist, as the first rows test them
@@ -50,11 +46,8 @@ memory_right w h = ap not (eq-eqb (length w.words) memory_words h)
 pub sound_of : {ed : Edition} (w : WorldIn ed) → not (tables_in ed w.state) ≡ false → SoundIn ed w.state
 sound_of {ed} w h = sound_in ed w.state (not-false _ h)
 
-pub owned_of : {ed : Edition} (w : WorldIn ed) → not (tables_in ed w.state) ≡ false → OwnedIn ed w.state
-owned_of {ed} w h = tables_owned ed w.state (not-false _ h)
-
-pub sound_right : {ed : Edition} (w : WorldIn ed) → SoundIn ed w.state → OwnedIn ed w.state → not (tables_in ed w.state) ≡ false
-sound_right w g o = ap not (sound_tables w.state g o)
+pub sound_right : {ed : Edition} (w : WorldIn ed) → SoundIn ed w.state → not (tables_in ed w.state) ≡ false
+sound_right w g = ap not (sound_tables w.state g)
 
 pub process_there : (ed : Edition) (p i : ℕ) → no_thread_in ed p i ≡ false → p < processes
 process_there ed p i h = leb-false processes p (or_left (no_process p) (leb ed.per_process i) h)
@@ -68,31 +61,25 @@ thread_process = process_there present
 pub thread_index : (p i : ℕ) → no_thread p i ≡ false → i < threads_per_process
 thread_index = index_there present
 
-pub clear_passed : {ed : Edition} (c : Call) (o : Owning) (w : WorldIn ed) → Clear (first_rows w ++ asked_rows c o w) → Passed (command_of c.op) c o w
-unfolding rows_in front_in not_implemented would_own
-clear_passed {ed} c o w h =
+pub clear_passed : {ed : Edition} (c : Call) (w : WorldIn ed) → Clear (refusals (CallEvent c) w) → Passed (command_of c.op) c w
+unfolding refusals rows_in not_implemented
+clear_passed {ed} c w h =
     let op = h.1.1.1.1.0 in
     let k = command_of c.op in
-    let word = word_at w c.process c.uaddr in
-    let front = clear_left (argument_rows k c ++ behind_rows ed k c o word) _ h.1.1.1.1.1 in
-    let last = clear_right (argument_rows k c ++ behind_rows ed k c o word) _ h.1.1.1.1.1 in
-    let behind = clear_right (argument_rows k c) _ front in
+    let behind = clear_right (argument_rows k c) _ h.1.1.1.1.1 in
     record {
       memory = memory_is w h.0;
       sound = sound_of w h.1.0;
-      owned = owned_of w h.1.0;
       process = process_there ed c.process c.index h.1.1.0;
       index = index_there ed c.process c.index h.1.1.0;
       runs = h.1.1.1.0;
       known = or_left (is_unknown (command_of c.op)) (eqb (bit_set c.op clock_bit) 1) op;
       monotonic = or_right (is_unknown (command_of c.op)) (eqb (bit_set c.op clock_bit) 1) op;
-      arguments = clear_left (argument_rows k c) _ front;
+      arguments = clear_left (argument_rows k c) _ h.1.1.1.1.1;
       addresses = behind.0;
       defined = behind.1.0;
       equal = behind.1.1.0;
-      named = behind.1.1.1.0;
-      apart = not-false _ last.0;
-      ahead = last.1.0;
+      ahead = behind.1.1.1.0;
     }
 
 pub number_below : (n p i : ℕ) → p < processes → i < n → n * p + i < processes * n
@@ -101,30 +88,21 @@ number_below n p i h l = let k : p ≤ 7 = omega arith in omega (arith, mul-le-m
 pub caller_there : (ed : Edition) (c : Call) → c.process < processes → c.index < ed.per_process → caller_in ed c < threads_in ed
 caller_there ed c p i = number_below ed.per_process c.process c.index p i
 
--- a caller's process is the one that it names
-pub own_process : (ed : Edition) (c : Call) → c.index < ed.per_process → process_in ed (caller_in ed c) ≡ c.process
-own_process ed c h = mul-add-div (omega arith) c.process c.index ∙ ap (c.process +◌) (div-eq_of_lt h) ∙ omega arith
-
 pub caller_below : (c : Call) → c.process < processes → c.index < threads_per_process → caller c < threads
 caller_below = caller_there present
 
-pub passed_clear : {ed : Edition} (c : Call) (o : Owning) (w : WorldIn ed) → Passed (command_of c.op) c o w → Clear (first_rows w ++ asked_rows c o w)
-unfolding rows_in front_in not_implemented would_own
-passed_clear {ed} c o w g =
-    let k = command_of c.op in
+pub passed_clear : {ed : Edition} (c : Call) (w : WorldIn ed) → Passed (command_of c.op) c w → Clear (refusals (CallEvent c) w)
+unfolding refusals rows_in not_implemented
+passed_clear {ed} c w g =
     memory_right w g.memory
-    and sound_right w g.sound g.owned
+    and sound_right w g.sound
     and or_intro (lt-leb processes c.process g.process) (lt-leb ed.per_process c.index g.index)
     and g.runs
     and or_intro g.known g.monotonic
-    and clear_both (argument_rows k c ++ behind_rows ed k c o (word_at w c.process c.uaddr)) _
-    (clear_both (argument_rows k c) _ g.arguments
+    and clear_both (argument_rows (command_of c.op) c) _ g.arguments
     (g.addresses
     and g.defined
     and g.equal
-    and g.named
-    and tt))
-    (ap not g.apart
     and g.ahead
     and tt)
 

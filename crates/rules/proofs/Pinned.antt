@@ -1,66 +1,59 @@
 -- Laws that fix the words in which the theorems speak: each says, of a definition in specs/, what only the right one meets. Those that are
 -- proved by refl only read a definition out, so that a change of it shows; they say nothing more of the kernel.
-use mathlib.Core.Path.{◌≡◌, refl, sym, ap, ◌∙◌, subst₂}
-use mathlib.Core.Bool.{Bool, true, false, not, cond, ◌&&◌, ◌||◌, and-false, or-true}
+use mathlib.Core.Path.{◌≡◌, refl, sym, ap, ◌∙◌}
+use mathlib.Core.Bool.{Bool, true, false, not, cond, ◌&&◌, ◌||◌}
 use mathlib.Core.List.{List, [], ◌∷◌, ◌++◌, map}
-use mathlib.Core.Logic.{◌⊎◌, inl, inr, ◌↔◌}
+use mathlib.Core.Logic.{◌⊎◌, ◌↔◌}
 use Prim.Native.Nat.{ℕ, ◌+◌, ◌-◌, ◌*◌, ◌/◌, ◌%◌, ◌≤◌, ◌<◌}
 use native.Mathlib.Omega.{arith}
 use lib.ListN.{length, take, drop, replicate}
-use lib.Dec.{eqb, leb, ltb}
+use lib.Dec.{eqb}
 use lib.Bits.{bit_and, bit_or, bit_xor}
 use mir.Syntax.{w32}
 use mir.Val.{to_z}
 use lib.IntN.{ℤ, pos, neg_ℤ}
-use borrow.Author.Tests.{eqb-true, eqb-false, eq-eqb, ne_eqb, leb-true, le-leb, ltb-true, ltb-false, lt-ltb, le-ltb, not-true}
+use borrow.Author.Tests.{eqb-true, eq-eqb, leb-true, le-leb}
 use Rattle.lists.specs.Lists.{filter, all, elem}
 use Rattle.lists.proofs.Filter.{all_at, at_all, get_d_replicated}
 use Rattle.lists.proofs.Standing.{stands_once}
-use Rattle.lists.proofs.Tests.{cases, clash, by_cases, eqb_refl, and_intro, and_left, and_right, or_left, or_right, or_intro}
+use Rattle.lists.proofs.Tests.{by_cases, eqb_refl, and_intro, and_left, and_right}
 use Rattle.tables.specs.declared.State.{State}
 use Rattle.tables.specs.declared.Thread.{Thread}
 use Rattle.tables.specs.declared.LastAnswer.{LastAnswer}
 use Rattle.rules.specs.declared.event.Command.{Command}
-use Rattle.rules.specs.declared.event.Command.TheVariants.{Wake, Requeue, CmpRequeue, WakeOp, WaitBitset, WakeBitset}
+use Rattle.rules.specs.declared.event.Command.TheVariants.{CmpRequeue}
 use Rattle.rules.specs.declared.event.Call.{Call}
-use Rattle.rules.specs.declared.event.Owning.{Owning}
-use Rattle.rules.specs.declared.event.OwnerWait.{OwnerWait as WaitOf}
-use Rattle.rules.specs.declared.event.OwnerRequeue.{OwnerRequeue as RequeueOf}
 use Rattle.rules.specs.declared.event.Event.{Event}
-use Rattle.rules.specs.declared.event.Event.TheVariants.{Call as CallEvent, Store, Clock, Interrupt, Query, SetPriority, OwnerWait, OwnerWake, OwnerRequeue, OwnerQuery}
-use Rattle.rules.specs.declared.answer.Reason.TheVariants.{NoReason, FirstCap, SecondCap, MaskZero, UaddrUnaligned, Uaddr2Unaligned, SameAddress, ClockBack, PriorityHigh, OwnWord}
+use Rattle.rules.specs.declared.event.Event.TheVariants.{Call as CallEvent, Store, Clock, Interrupt, Query, SetPriority}
+use Rattle.rules.specs.declared.answer.Reason.TheVariants.{NoReason, FirstCap, SecondCap, MaskZero, UaddrUnaligned, Uaddr2Unaligned, SameAddress, ClockBack, PriorityHigh}
 use Rattle.rules.specs.declared.answer.Refusal.{Refusal}
 use Rattle.rules.specs.declared.answer.Panel.{Panel}
 use Rattle.rules.specs.declared.answer.Verdict.TheVariants.{Refuse, Pass}
 use Rattle.rules.specs.declared.answer.Answer.{Answer}
-use Rattle.rules.specs.declared.answer.Answer.TheVariants.{Asleep, Count, Refused, Waiting, Owner}
-use Rattle.tables.specs.Sizes.{processes, threads_per_process, threads, no_entry, words_per_process, bytes_per_process, memory_words, max_cap, max_priority, no_owner, match_any, word_bits, word_limit}
+use Rattle.rules.specs.declared.answer.Answer.TheVariants.{Asleep, Count, Refused, Waiting}
+use Rattle.tables.specs.Sizes.{processes, threads_per_process, threads, no_entry, words_per_process, bytes_per_process, memory_words, max_cap, max_priority, word_bits, word_limit}
 use Rattle.tables.specs.Editions.{present}
-use Rattle.tables.specs.Tables.{World, world, fresh_thread, queue_in, queue, fresh_in, fresh, expired, thread_number, process_of, index_of, thread_of, arrivals, sleeps_at, owner_in, owner_of, waits_for_in, waits_for, is_owner, apart_in, tables_ok, moved_to, with_priority, with_owner, set_owner, word_at}
+use Rattle.tables.specs.Tables.{World, world, fresh_thread, queue_in, queue, fresh_in, fresh, expired, thread_number, process_of, thread_of, arrivals, tables_ok, moved_to, with_priority, word_at}
 use Rattle.rules.specs.Answers.{Row, first, reason_number, answer_numbers, reason_of, last_number, Outcome, outcome}
 use Rattle.rules.specs.Commands.{command_of, numbered, uses}
 use Rattle.rules.specs.Signed.{negative, signed, modulo, eq_z}
 use Rattle.rules.specs.WakeOp.{code_bits, arg_bits, op_field, cmp_arg_field, shift_bit, undefined_op, operate, new_word, compare_by, compares, val3_of}
-use Rattle.rules.specs.Calls.{caller, is_wake_op, matches, candidates_in, released_in, released, old_word, plainly, bad_owner_in, owner_given, owner_left_in, left_by, would_own}
-use Rattle.rules.specs.Events.{naming, wake_like, is_single, of_call, refusals, effect, step}
+use Rattle.rules.specs.Calls.{caller, is_wake_op, matches, candidates_in, released_in, old_word}
+use Rattle.rules.specs.Events.{refusals, effect, step}
 use Rattle.rules.specs.Numbers.{numbers_of}
 use Rattle.rules.specs.Before.{step_without_reasons, new_word_unsigned, compares_unsigned, step_unsigned, none_negative, other, minus12, numbers_with12, as_with12, full, judged_with12, step_with12, taken_by_arrival, under_arrival, back_to, step_by_arrival, Level}
 use Rattle.rules.specs.History.{start, final, answers, is_clock, belongs, kept_for, entries_of, answers_to}
-use Rattle.rules.specs.Claims.{FirstOf, Clear, Asks, as_call, as_owner_wait, as_owner_wake, as_owner_requeue, TestedAs, itself, as_wake, IsWait, Sleeps, GoesBefore, but_owner, Took, Takes, woken_by, moved_by, woke, shifted, counts_moves, SameSleepers, NamedAlike, before, after, PrioritySet, owner_by_call, owner_by, is_empty, names_word, asleep_there, Enters, slept_through, Since, Alike}
+use Rattle.rules.specs.Claims.{FirstOf, Clear, Sleeps, GoesBefore, Took, Takes, woken_by, moved_by, woke, shifted, counts_moves, SameSleepers, NamedAlike, before, after, PrioritySet, asleep_there, Enters, slept_through, Since, Alike}
 use Rattle.rules.specs.Cases.{wake_op_at, asleep_at_minus_one, Case, sleepers, ended_from, given, Reasoned, reasoned_as, Share, mixed, share_of, Unsound, each, unsound_given}
 use Rattle.rules.specs.PriorityCases.{Prioritised, ranked_from, prioritised_as, Choice, sleep_on, chosen_as}
-use Rattle.rules.specs.OwnerCases.{Owned, owned_as, Ruled, ruled_as}
 use Rattle.rules.specs.WakeOpCases.{Compared, compared_as, Stored, stored_as, Called, called_as}
 use Rattle.tables.proofs.Sound.{once, tables_sound}
-use Rattle.tables.proofs.Owners as Owners
-use Rattle.tables.proofs.Owners.{listed_of, tables_owned, owner_at_lem}
-use Rattle.rules.proofs.ByEvent.{asks_of, no_call}
-use Rattle.rules.proofs.Rows.{first_of, of_first, pass_clear, clear_pass, asks_effect, step_clear}
+use Rattle.rules.proofs.ByEvent.{no_call}
+use Rattle.rules.proofs.Rows.{first_of, of_first, pass_clear, clear_pass}
 use Rattle.rules.proofs.Preserved.{Valid}
 use Rattle.rules.proofs.Signed as Signed'
 use Rattle.rules.proofs.Signed.{eq_z_true, eq_eq_z}
 use Rattle.rules.proofs.Numbers as Numbers'
-use Rattle.rules.proofs.Reasons as Reasons
 use Rattle.rules.proofs.Before as Before'
 use Rattle.rules.proofs.Taken as Taken
 use Rattle.rules.proofs.Fate.{fate}
@@ -71,21 +64,20 @@ use Rattle.rules.proofs.Elsewhere as Elsewhere
 use Rattle.rules.proofs.Fates as Fates
 use Rattle.rules.proofs.Counts as Counts
 use Rattle.rules.proofs.Histories as Histories
-use Rattle.rules.proofs.OwnersAfter as OwnersAfter
 
 -- "The display's fixed sizes"
 pub sizes : (processes ≡ 8) × (threads_per_process ≡ 8) × (threads ≡ 64) × (no_entry ≡ 255) × (words_per_process ≡ 1024) × (bytes_per_process ≡ 4096)
-    × (memory_words ≡ 8192) × (max_cap ≡ 2147483647) × (max_priority ≡ 31) × (no_owner ≡ 255) × (match_any ≡ 4294967295) × (word_bits ≡ 32) × (word_limit ≡ 4294967296) × (code_bits ≡ 4) × (arg_bits ≡ 12) × (shift_bit ≡ 8)
-sizes = (refl, refl, refl, refl, refl, refl, refl, refl, refl, refl, refl, refl, refl, refl, refl, refl)
+    × (memory_words ≡ 8192) × (max_cap ≡ 2147483647) × (max_priority ≡ 31) × (word_bits ≡ 32) × (word_limit ≡ 4294967296) × (code_bits ≡ 4) × (arg_bits ≡ 12) × (shift_bit ≡ 8)
+sizes = (refl, refl, refl, refl, refl, refl, refl, refl, refl, refl, refl, refl, refl, refl)
 
 -- The last answers by number: "The last answer is 1 until a sleep ends, then 0 (woken), -110 or -4."
 pub fresh_last : (words : List ℕ) (t : ℕ) → last_number (thread_of (start words).state t).last ≡ pos 1
 unfolding fresh_in
 fresh_last words t = ap (λ (r : Thread). last_number r.last) (get_d_replicated threads t _)
 
-pub released_last : {e : Event} {c : Call} {o : Owning} → Asks e c o → (w : World) (n t : ℕ) → (step e w).answer ≡ Count n
-    → elem t (woken_by (command_of c.op) c w) ≡ true → last_number (thread_of (step e w).world.state t).last ≡ pos 0
-released_last is w n t h e = ap (λ (r : Thread). last_number r.last) ((Taken.takes_first is w n h).took.ran t e)
+pub released_last : (c : Call) (w : World) (n t : ℕ) → (step (CallEvent c) w).answer ≡ Count n → elem t (woken_by (command_of c.op) c w) ≡ true
+    → last_number (thread_of (step (CallEvent c) w).world.state t).last ≡ pos 0
+released_last c w n t h e = ap (λ (r : Thread). last_number r.last) ((Taken.takes_first c w n h).took.ran t e)
 
 pub deadline_last : (now : ℕ) (w : World) (n t : ℕ) → (step (Clock now) w).answer ≡ Count n → expired now (thread_of w.state t) ≡ true
     → last_number (thread_of (step (Clock now) w).world.state t).last ≡ neg_ℤ (pos 110)
@@ -104,7 +96,7 @@ fresh_priority words t = ap (λ (r : Thread). r.priority) (get_d_replicated thre
 
 pub priority_written : (n : ℕ) (r : Thread)
     → with_priority n r
-    ≡ record { waiting = r.waiting; uaddr = r.uaddr; bitset = r.bitset; timed = r.timed; deadline = r.deadline; last = r.last; priority = n; owner = r.owner }
+    ≡ record { waiting = r.waiting; uaddr = r.uaddr; bitset = r.bitset; timed = r.timed; deadline = r.deadline; last = r.last; priority = n }
 priority_written n r = refl
 
 -- which event set it, of which thread, to what, and what it was answered.
@@ -114,226 +106,6 @@ pub priority_set_exactly : (e : Event) (w : World) (t : ℕ)
 priority_set_exactly e w t = (
   (λ s. (s.process, s.index, s.priority, s.event, s.thread, s.answer, s.left)),
   (λ s. record { process = s.0; index = s.1; priority = s.2; event = s.3; thread = s.4; answer = s.5; left = s.6 }),
-)
-
--- The owner family. What is asked of a call is asked of each of its events but the query: of the plain call that it is like, with what it says of owners.
--- A plain call names none; "its mask is all ones"; "it takes one sleeper"; "kind 8 as CMP_REQUEUE"; "with the flag 1 the wake cap is ignored".
-pub of_call_lem : {A : Type 0} (f : Call → Owning → A) (x : A) (c : Call) (y : WaitOf) (z : RequeueOf) (p i a v now n : ℕ)
-    → (of_call f x (CallEvent c) ≡ f c (record { names = false; owner = no_owner; single = false }))
-    × (of_call f x (OwnerWait y)
-    ≡ f (record { process = y.process; index = y.index; op = 9; uaddr = y.uaddr; val = y.val; flag = y.flag; timeout = y.deadline; uaddr2 = 0; val3 = match_any })
-    (record { names = true; owner = y.owner; single = false }))
-    × (of_call f x (OwnerWake p i a)
-    ≡ f (record { process = p; index = i; op = 1; uaddr = a; val = 1; flag = 0; timeout = 0; uaddr2 = 0; val3 = 0 }) (record { names = true; owner = no_owner; single = true }))
-    × (of_call f x (OwnerRequeue z)
-    ≡ f (record { process = z.process; index = z.index; op = 4; uaddr = z.uaddr; val = cond (is_single z) 1 z.cap; flag = 0; timeout = z.cap2; uaddr2 = z.uaddr2; val3 = z.val })
-    (record { names = true; owner = z.owner; single = is_single z }))
-    × (of_call f x (Store p a v) ≡ x)
-    × (of_call f x (Clock now) ≡ x)
-    × (of_call f x (Interrupt p i) ≡ x)
-    × (of_call f x (Query p) ≡ x)
-    × (of_call f x (SetPriority p i n) ≡ x)
-    × (of_call f x (OwnerQuery p i a) ≡ x)
-of_call_lem f x c y z p i a v now n = (refl, refl, refl, refl, refl, refl, refl, refl, refl, refl)
-
-pub like_commands : (command_of 9 ≡ WaitBitset) × (command_of 1 ≡ Wake) × (command_of 4 ≡ CmpRequeue)
-unfolding command_of
-like_commands = (refl, refl, refl)
-
-pub single_exactly : (z : RequeueOf) → (is_single z ≡ true) ↔ (z.single ≡ 0 → ⊥)
-single_exactly z = ((λ h. eqb-false z.single 0 (not-true _ h)), λ h. ap not (ne_eqb z.single 0 h))
-
--- An event asks that call and no other; and what is tested as a call is that, or "kind 9 tested as a wake".
-pub asks_exactly : (e : Event) (c : Call) (o : Owning) → Asks e c o ↔ of_call (λ d p. (d ≡ c) × (p ≡ o)) ⊥ e
-asks_exactly e c o = (told, asked e)
-  where
-    told : {e : Event} {c : Call} {o : Owning} → Asks e c o → of_call (λ d p. (d ≡ c) × (p ≡ o)) ⊥ e
-    told (as_call d) = (refl, refl)
-    told (as_owner_wait x) = (refl, refl)
-    told (as_owner_wake p i a) = (refl, refl)
-    told (as_owner_requeue x) = (refl, refl)
-
-    asked : (e : Event) → of_call (λ d p. (d ≡ c) × (p ≡ o)) ⊥ e → Asks e c o
-    asked (CallEvent d) h = subst₂ (Asks (CallEvent d)) h.0 h.1 (as_call d)
-    asked (Store p a v) h = absurd h
-    asked (Clock now) h = absurd h
-    asked (Interrupt p i) h = absurd h
-    asked (Query p) h = absurd h
-    asked (SetPriority p i n) h = absurd h
-    asked (OwnerWait x) h = subst₂ (Asks (OwnerWait x)) h.0 h.1 (as_owner_wait x)
-    asked (OwnerWake p i a) h = subst₂ (Asks (OwnerWake p i a)) h.0 h.1 (as_owner_wake p i a)
-    asked (OwnerRequeue x) h = subst₂ (Asks (OwnerRequeue x)) h.0 h.1 (as_owner_requeue x)
-    asked (OwnerQuery p i a) h = absurd h
-
-pub tested_exactly : (e : Event) (c : Call) (o : Owning)
-    → TestedAs e c o ↔ (Asks e c o ⊎ ((p : ℕ) × (i : ℕ) × (a : ℕ) × (e ≡ OwnerQuery p i a) × (c ≡ wake_like p i a) × (o ≡ plainly)))
-tested_exactly e c o = (told, λ h. by_cases h itself (λ q. asked q.0 q.1 q.2 q.3 q.4 q.5))
-  where
-    told : {e : Event} {c : Call} {o : Owning} → TestedAs e c o
-        → Asks e c o ⊎ ((p : ℕ) × (i : ℕ) × (a : ℕ) × (e ≡ OwnerQuery p i a) × (c ≡ wake_like p i a) × (o ≡ plainly))
-    told (itself is) = inl is
-    told (as_wake p i a) = inr (p, i, a, refl, refl, refl)
-
-    asked : (p i a : ℕ) → e ≡ OwnerQuery p i a → c ≡ wake_like p i a → o ≡ plainly → TestedAs e c o
-    asked p i a h k l = rw (h, k, l) (as_wake p i a)
-
--- Owners. No word has one at the start; a record with another owner is the same in all else, and so are two that are the same but for the owner.
-pub fresh_owner : (words : List ℕ) (p a : ℕ) → owner_of p a (start words).state ≡ no_owner
-unfolding fresh_in owner_in queue_in
-fresh_owner words p a = refl
-
-pub owner_written : (n : ℕ) (r : Thread)
-    → with_owner n r
-    ≡ record { waiting = r.waiting; uaddr = r.uaddr; bitset = r.bitset; timed = r.timed; deadline = r.deadline; last = r.last; priority = r.priority; owner = n }
-owner_written n r = refl
-
-pub but_owner_exactly : (r u : Thread) → (but_owner r ≡ but_owner u) ↔ (r ≡ with_owner r.owner u)
-but_owner_exactly r u = ((λ h. ap (with_owner r.owner) h), λ h. ap but_owner h)
-
--- "A word has an owner index or none; a word with no sleepers has none": in sound tables it is the one that each sleeper's record has, for whom that
--- sleeper waits.
-pub owner_exactly : (p a : ℕ) (s : State)
-    → (queue p a s ≡ [] → owner_of p a s ≡ no_owner)
-    × (tables_ok s ≡ true → (t : ℕ) → sleeps_at p a s t ≡ true → owner_of p a s ≡ (thread_of s t).owner)
-unfolding owner_in
-owner_exactly p a s = (
-  (λ h. rw h),
-  (λ ok t h. sym (owner_at_lem s (listed_of s (tables_sound s ok)) (tables_owned present s ok).agree p a t h)),
-)
-
-pub waits_for_lem : (s : State) (t : ℕ) → waits_for s t ≡ owner_of (process_of t) (thread_of s t).uaddr s
-unfolding waits_for_in
-waits_for_lem s t = refl
-
--- A word's owner set, "if threads then sleep there", in the records of those who sleep there and in no other.
-pub owner_set : (p a n : ℕ) (s : State)
-    → ((t : ℕ) (ts : List ℕ) → queue p a s ≡ t ∷ ts → owner_of p a (set_owner p a n s) ≡ n)
-    × ((t : ℕ) → thread_of (set_owner p a n s) t ≡ cond (sleeps_at p a s t) (with_owner n (thread_of s t)) (thread_of s t))
-owner_set p a n s = ((λ t ts h. Owners.owner_set present p a n s ∙ rw h), Owners.set_at present p a n s)
-
--- "each owner is an index or none", and a bad one neither: "(above 7 and not 255)".
-pub is_owner_exactly : (n : ℕ) → (is_owner n ≡ true) ↔ ((n < threads_per_process) ⊎ (n ≡ no_owner))
-is_owner_exactly n = (
-  (λ h. cases (ltb n threads_per_process) (λ e. inl (ltb-true n threads_per_process e)) (λ e. inr (eqb-true n no_owner (rw e at h)))),
-  (λ h. by_cases h (λ e. rw (lt-ltb n threads_per_process e)) (λ e. rw e)),
-)
-
-pub bad_owner_exactly : (o : Owning) → (bad_owner_in present o ≡ true) ↔ ((threads_per_process ≤ o.owner) × (o.owner ≡ no_owner → ⊥))
-bad_owner_exactly o =
-    let index = ltb o.owner threads_per_process in
-    let none = eqb o.owner no_owner in (
-      (λ h. let no = not-true _ h in (ltb-false o.owner threads_per_process (or_left index none no), eqb-false o.owner no_owner (or_right index none no))),
-      (λ h. ap not (or_intro (le-ltb o.owner threads_per_process h.0) (ne_eqb o.owner no_owner h.1))),
-    )
-
--- The owner that a wait gives its word and a requeue its target: as named, or the old one; and the one that a wake or requeue leaves its first word:
--- none, or, of one that makes an owner of whom it releases, the first of them, by its index.
-pub owner_given_lem : (n old : ℕ) (single : Bool) → (owner_given plainly old ≡ old) × (owner_given (naming n single) old ≡ n)
-owner_given_lem n old single = (refl, refl)
-
-pub owner_left : (n t : ℕ) (out : List ℕ)
-    → (owner_left_in present plainly out ≡ no_owner)
-    × (owner_left_in present (naming n false) out ≡ no_owner)
-    × (owner_left_in present (naming n true) [] ≡ no_owner)
-    × (owner_left_in present (naming n true) (t ∷ out) ≡ t % threads_per_process)
-owner_left n t out = (refl, refl, refl, refl)
-
--- What an event makes of a word's owner: a call what is read out below, and no other event anything.
-pub owner_by_lem : {e : Event} {c : Call} {o : Owning} → Asks e c o → (w : World) (p a : ℕ) → owner_by e w p a ≡ owner_by_call c o w p a
-owner_by_lem is w p a = asks_of (λ c o. owner_by_call c o w p a) (owner_of p a w.state) is
-
-pub none_else_owns : (w : World) (p a : ℕ) (e : Event) → ((c : Call) (o : Owning) → Asks e c o → ⊥) → owner_by e w p a ≡ owner_of p a w.state
-none_else_owns w p a e h = no_call _ _ e h
-
-module _ (c : Call) (o : Owning) (w : World) where
-  -- a wait gives its word an owner;
-  pub owner_by_wait : IsWait (command_of c.op) → owner_by_call c o w c.process c.uaddr ≡ owner_given o (owner_of c.process c.uaddr w.state)
-  owner_by_wait i =
-      let own = eqb_refl c.process in
-      let one = eqb_refl c.uaddr in
-      let off = and-false (eqb c.uaddr c.uaddr2) in
-      by_cases i (λ k. rw (k, own, off, one)) (λ k. rw (k, own, off, one))
-
-  -- a wake leaves its word one;
-  pub owner_by_wake : (command_of c.op ≡ Wake) ⊎ (command_of c.op ≡ WakeBitset)
-      → owner_by_call c o w c.process c.uaddr ≡ owner_left_in present o (released (command_of c.op) c w.state)
-  owner_by_wake i =
-      let own = eqb_refl c.process in
-      let one = eqb_refl c.uaddr in
-      let off = and-false (eqb c.uaddr c.uaddr2) in
-      by_cases i (λ k. rw (k, own, off, one)) (λ k. rw (k, own, off, one))
-
-  -- a requeue leaves its first word one, and gives its target one;
-  pub owner_by_requeue : (command_of c.op ≡ Requeue) ⊎ (command_of c.op ≡ CmpRequeue) → (c.uaddr ≡ c.uaddr2 → ⊥)
-      → (owner_by_call c o w c.process c.uaddr ≡ owner_left_in present o (released (command_of c.op) c w.state))
-      × (owner_by_call c o w c.process c.uaddr2 ≡ owner_given o (owner_of c.process c.uaddr2 w.state))
-  owner_by_requeue i apart =
-      let own = eqb_refl c.process in
-      let one = eqb_refl c.uaddr in
-      let two = eqb_refl c.uaddr2 in
-      let off = ne_eqb c.uaddr c.uaddr2 apart in
-      by_cases i (λ k. (rw (k, own, off, one), rw (k, own, two))) (λ k. (rw (k, own, off, one), rw (k, own, two)))
-
-  -- a WAKE_OP clears its first word's, "and .. the second's too if its comparison is true".
-  pub owner_by_wake_op : command_of c.op ≡ WakeOp → (c.uaddr ≡ c.uaddr2 → ⊥)
-      → (owner_by_call c o w c.process c.uaddr ≡ no_owner)
-      × (owner_by_call c o w c.process c.uaddr2 ≡ cond (compares c.val3 (old_word c w)) no_owner (owner_of c.process c.uaddr2 w.state))
-  owner_by_wake_op k apart =
-      let own = eqb_refl c.process in
-      let one = eqb_refl c.uaddr in
-      let two = eqb_refl c.uaddr2 in
-      let off = ne_eqb c.uaddr c.uaddr2 apart in
-      let back = ne_eqb c.uaddr2 c.uaddr (λ e. apart (sym e)) in
-      (rw (k, own, off, one), rw (k, own, two, back))
-
--- No call makes anything of a word that it does not name: uaddr, and uaddr2 if it uses that, of its process; and nobody else names any.
-pub owner_unnamed : (w : World) (p a : ℕ) (e : Event) → names_word e p a ≡ false → owner_by e w p a ≡ owner_of p a w.state
-owner_unnamed = OwnersAfter.unnamed
-
-pub names_exactly : {e : Event} {c : Call} {o : Owning} → Asks e c o → (p a : ℕ)
-    → (names_word e p a ≡ true) ↔ ((p ≡ c.process) × ((a ≡ c.uaddr) ⊎ (((uses (command_of c.op)).second ≡ true) × (a ≡ c.uaddr2))))
-names_exactly {c = c} is p a =
-    let two = (uses (command_of c.op)).second in
-    let own = eqb p c.process in
-    let first = eqb a c.uaddr in
-    let second = eqb a c.uaddr2 in
-    let same = asks_of (λ c o. eqb p c.process && (eqb a c.uaddr || (uses (command_of c.op)).second && eqb a c.uaddr2)) false is in (
-      (λ h.
-          let named = sym same ∙ h in (
-            eqb-true p c.process (and_left own (first || two && second) named),
-            cases first
-                (λ e. inl (eqb-true a c.uaddr e))
-                (λ e. let on = rw e at (and_right own (first || two && second) named) in inr (and_left two second on, eqb-true a c.uaddr2 (and_right two second on))),
-          )),
-      (λ h. same ∙ and_intro (eq-eqb p c.process h.0) (by_cases h.1
-          (λ e. rw (eq-eqb a c.uaddr e))
-          (λ e. rw (e.0, eq-eqb a c.uaddr2 e.1) (or-true first)))),
-    )
-
-pub none_names : (p a : ℕ) (e : Event) → ((c : Call) (o : Owning) → Asks e c o → ⊥) → names_word e p a ≡ false
-none_names p a e h = no_call _ _ e h
-
-pub empty_exactly : (l : List ℕ) → (is_empty l ≡ true) ↔ (l ≡ [])
-empty_exactly l = (go l, λ h. ap is_empty h)
-  where
-    go : (l : List ℕ) → is_empty l ≡ true → l ≡ []
-    go [] h = refl
-    go (t ∷ ts) h = clash false h refl
-
--- Reason 9 is judged by what a call would leave, which is what it leaves if it is not refused; and none is "both owner of a word and asleep there" where
--- no sleeper waits for itself.
-pub left_exactly : {e : Event} {c : Call} {o : Owning} → Asks e c o → (w : World) → Clear (refusals e w) → (step e w).world.state ≡ left_by c o w
-left_exactly {e} is w h = ap (λ (x : Outcome). x.world.state) (step_clear e w h ∙ asks_effect is w)
-
-pub would_own_lem : (c : Call) (o : Owning) (w : World) → would_own c o w ≡ not (apart_in present (left_by c o w))
-unfolding would_own
-would_own_lem c o w = refl
-
-pub apart_exactly : (s : State) → length s.threads ≡ threads
-    → (apart_in present s ≡ true) ↔ ((t : ℕ) → (thread_of s t).waiting ≡ true → waits_for s t ≡ index_of t → ⊥)
-apart_exactly s size = (
-  (λ h t on own. clash (apart_in present s) h (Reasons.on_own_word_lem s size t on own)),
-  (λ h. cases (apart_in present s) (λ e. e) (λ e. let some = Reasons.own_word_lem s e in absurd (h some.0 some.1 some.2))),
 )
 
 -- Histories.
@@ -353,19 +125,15 @@ pub answers_last : (g : List Event) (e : Event) (w : World) → answers (g ++ e 
 answers_last g e w = Histories.answers_append g (e ∷ []) w
 
 -- Whose an event is: "A call, store, interrupt or panel query belongs to the process that it names. A clock event belongs to none"; a priority
--- that is set "belongs to the named process"; "Kinds 6 to 9 belong to the process that they name".
-pub belongs_to : (p q i a v now n : ℕ) (c : Call) (x : WaitOf) (y : RequeueOf)
+-- that is set "belongs to the named process".
+pub belongs_to : (p q i a v now n : ℕ) (c : Call)
     → (belongs p (CallEvent c) ≡ eqb c.process p)
     × (belongs p (Store q a v) ≡ eqb q p)
     × (belongs p (Interrupt q i) ≡ eqb q p)
     × (belongs p (Query q) ≡ eqb q p)
     × (belongs p (SetPriority q i n) ≡ eqb q p)
-    × (belongs p (OwnerWait x) ≡ eqb x.process p)
-    × (belongs p (OwnerWake q i a) ≡ eqb q p)
-    × (belongs p (OwnerRequeue y) ≡ eqb y.process p)
-    × (belongs p (OwnerQuery q i a) ≡ eqb q p)
     × (belongs p (Clock now) ≡ false)
-belongs_to p q i a v now n c x y = (refl, refl, refl, refl, refl, refl, refl, refl, refl, refl)
+belongs_to p q i a v now n c = (refl, refl, refl, refl, refl, refl)
 
 -- What a process's events are answered: all of them, in order, and no other's.
 pub answers_in_order : (p : ℕ) (g : List Event) (e : Event) (w : World)
@@ -392,8 +160,8 @@ pub clear_exactly : (rs : List Row) → Clear rs ↔ (first rs ≡ Pass)
 clear_exactly rs = (clear_pass rs, pass_clear rs)
 
 -- Reasons by their numbers, and which commands use the arguments that they speak of, by theirs.
-pub reason_numbers : map reason_number (NoReason ∷ FirstCap ∷ SecondCap ∷ MaskZero ∷ UaddrUnaligned ∷ Uaddr2Unaligned ∷ SameAddress ∷ ClockBack ∷ PriorityHigh ∷ OwnWord ∷ [])
-    ≡ 0 ∷ 1 ∷ 2 ∷ 3 ∷ 4 ∷ 5 ∷ 6 ∷ 7 ∷ 8 ∷ 9 ∷ []
+pub reason_numbers : map reason_number (NoReason ∷ FirstCap ∷ SecondCap ∷ MaskZero ∷ UaddrUnaligned ∷ Uaddr2Unaligned ∷ SameAddress ∷ ClockBack ∷ PriorityHigh ∷ [])
+    ≡ 0 ∷ 1 ∷ 2 ∷ 3 ∷ 4 ∷ 5 ∷ 6 ∷ 7 ∷ 8 ∷ []
 reason_numbers = refl
 
 pub arguments_used : let commands : List ℕ = 0 ∷ 1 ∷ 3 ∷ 4 ∷ 5 ∷ 9 ∷ 10 ∷ [] in
@@ -404,8 +172,8 @@ pub arguments_used : let commands : List ℕ = 0 ∷ 1 ∷ 3 ∷ 4 ∷ 5 ∷ 9 �
 arguments_used = (refl, refl, refl, refl)
 
 pub reason_beside : (x : Refusal) (n : ℕ) (v : Panel)
-    → (reason_of (Refused x) ≡ x.reason) × (reason_of Asleep ≡ NoReason) × (reason_of (Count n) ≡ NoReason) × (reason_of (Waiting v) ≡ NoReason) × (reason_of (Owner n) ≡ NoReason)
-reason_beside x n v = (refl, refl, refl, refl, refl)
+    → (reason_of (Refused x) ≡ x.reason) × (reason_of Asleep ≡ NoReason) × (reason_of (Count n) ≡ NoReason) × (reason_of (Waiting v) ≡ NoReason)
+reason_beside x n v = (refl, refl, refl, refl)
 
 -- The rules before reasons answered by the same numbers, and gave no reason.
 pub before_numbers : (e : Event) (w : World) → (answer_numbers (step_without_reasons e w).answer ≡ numbers_of e w) × (reason_of (step_without_reasons e w).answer ≡ NoReason)
@@ -447,9 +215,9 @@ undefined_parts = (refl, refl)
 
 -- Of which events `as-before-signs` speaks: of all that are no WAKE_OP, and of a WAKE_OP with a power of two whatever its oparg.
 pub none_negative_else : (w : World)
-    → ((e : Event) → ((c : Call) (o : Owning) → Asks e c o → ⊥) → none_negative e w ≡ true)
-    × ((e : Event) (c : Call) (o : Owning) → Asks e c o → is_wake_op (command_of c.op) ≡ false → none_negative e w ≡ true)
-none_negative_else w = ((λ e h. no_call _ _ e h), λ e c o is off. asks_of _ true is ∙ rw off)
+    → ((e : Event) → ((c : Call) → e ≡ CallEvent c → ⊥) → none_negative e w ≡ true)
+    × ((c : Call) → is_wake_op (command_of c.op) ≡ false → none_negative (CallEvent c) w ≡ true)
+none_negative_else w = ((λ e h. no_call _ _ e h), λ c e. rw e)
 
 pub none_negative_power : (c : Call) (w : World) → is_wake_op (command_of c.op) ≡ true → shift_bit ≤ op_field c.val3
     → none_negative (CallEvent c) w ≡ (not (negative arg_bits (cmp_arg_field c.val3)) && not (negative word_bits (old_word c w)))
@@ -471,12 +239,10 @@ pub rows_with_12 : (e : Event) (w : World) → step_with12 e w ≡ judged_with12
 unfolding step_with12
 rows_with_12 e w = refl
 
-pub full_exactly : {e : Event} {c : Call} {o : Owning} → Asks e c o → (w : World) → (full e w ≡ true) ↔ (64 ≤ w.state.count)
-full_exactly is w =
-    let same = asks_of (λ c o. leb 64 w.state.count) false is in
-    ((λ h. leb-true 64 w.state.count (sym same ∙ h)), λ h. same ∙ le-leb 64 w.state.count h)
+pub full_exactly : (c : Call) (w : World) → (full (CallEvent c) w ≡ true) ↔ (64 ≤ w.state.count)
+full_exactly c w = (leb-true 64 w.state.count, le-leb 64 w.state.count)
 
-pub none_else_full : (w : World) (e : Event) → ((c : Call) (o : Owning) → Asks e c o → ⊥) → full e w ≡ false
+pub none_else_full : (w : World) (e : Event) → ((c : Call) → e ≡ CallEvent c → ⊥) → full e w ≡ false
 none_else_full w e h = no_call _ _ e h
 
 -- their numbers; and an outcome among them is the whole of it, with the reason.
@@ -510,14 +276,14 @@ goes_one_way s h t u first back = by_cases first
     (λ a. by_cases back (λ b. omega arith) (λ b. omega (arith, b.0)))
     (λ a. by_cases back (λ b. omega (arith, a.0)) (λ b. stands_once u t (arrivals s) (once s (tables_sound s h)) a.1 b.1))
 
--- Wakes and requeues: what was taken fixes every record, but for the owner of its word, and the order of the list afterwards,
+-- Wakes and requeues: what was taken fixes every record and the order of the list afterwards,
 pub took_fixes : {a : LastAnswer} {out on : List ℕ} {target : ℕ} {s u v : State} → Took a out on target s u → Took a out on target s v
-    → ((t : ℕ) → but_owner (thread_of u t) ≡ but_owner (thread_of v t)) × (arrivals u ≡ arrivals v)
+    → ((t : ℕ) → thread_of u t ≡ thread_of v t) × (arrivals u ≡ arrivals v)
 took_fixes g h = (Determined.took_records g h, Determined.took_order g h)
 
 -- and, of a call, the clock and the words.
 pub takes_fixes : {k : Command} {c : Call} {w u v : World} → Takes k c w u → Takes k c w v
-    → ((t : ℕ) → but_owner (thread_of u.state t) ≡ but_owner (thread_of v.state t))
+    → ((t : ℕ) → thread_of u.state t ≡ thread_of v.state t)
     × (arrivals u.state ≡ arrivals v.state)
     × (u.state.clock ≡ v.state.clock)
     × (u.words ≡ v.words)
@@ -532,12 +298,10 @@ pub shifted_exactly : (s u : State) (t : ℕ)
     ↔ (((thread_of s t).waiting ≡ true) × ((thread_of u t).waiting ≡ true) × ((thread_of s t).uaddr ≡ (thread_of u t).uaddr → ⊥))
 shifted_exactly s u t = (Counts.shifted_is s u t, Counts.is_shifted s u t)
 
-pub moves_count : {e : Event} {c : Call} {o : Owning} → Asks e c o → (counts_moves e ≡ true) ↔ (command_of c.op ≡ CmpRequeue)
-moves_count {c = c} is =
-    let same = asks_of (λ c o. (uses (command_of c.op)).moves && (uses (command_of c.op)).compare) false is in
-    ((λ h. Counts.moves_count (command_of c.op) (sym same ∙ h)), λ e. same ∙ rw e)
+pub moves_count : (c : Call) → (counts_moves (CallEvent c) ≡ true) ↔ (command_of c.op ≡ CmpRequeue)
+moves_count c = (Counts.moves_count (command_of c.op), λ e. rw e)
 
-pub none_moves : (e : Event) → ((c : Call) (o : Owning) → Asks e c o → ⊥) → counts_moves e ≡ false
+pub none_moves : (e : Event) → ((c : Call) → e ≡ CallEvent c → ⊥) → counts_moves e ≡ false
 none_moves e h = no_call _ _ e h
 
 -- What a count depends on is the same in the world itself, and after a thread has fallen asleep at a word that the call does not name.
@@ -547,32 +311,32 @@ named_same k c w = record { first = same; second = λ e. same; word = λ e. refl
     same : {p a : ℕ} → SameSleepers p a w.state w.state
     same = record { order = refl; records = λ t e. refl }
 
-pub named_elsewhere : {e : Event} {d : Call} {o : Owning} → Asks e d o → (k : Command) (c : Call) (w : World) → Sleeps d o w
+pub named_elsewhere : (k : Command) (c d : Call) (w : World) → Sleeps d w
     → (d.process ≡ c.process → (d.uaddr ≡ c.uaddr → ⊥) × (d.uaddr ≡ c.uaddr2 → ⊥))
-    → NamedAlike k c w (step e w).world
+    → NamedAlike k c w (step (CallEvent d) w).world
 named_elsewhere = Elsewhere.named_elsewhere
 
 -- A thread's fate. Who slept and runs was released by a call that was answered a count, reached its deadline or was interrupted, and its last answer says which;
 pub came_back : (e : Event) (w : World) (t : ℕ) → (before w t).waiting ≡ true → (after e w t).waiting ≡ false
-    → ((c : Call) × (o : Owning) × (n : ℕ) × Asks e c o × ((step e w).answer ≡ Count n) × (elem t (woken_by (command_of c.op) c w) ≡ true) × (last_number (after e w t).last ≡ pos 0))
+    → ((c : Call) × (n : ℕ) × (e ≡ CallEvent c) × ((step e w).answer ≡ Count n) × (elem t (woken_by (command_of c.op) c w) ≡ true) × (last_number (after e w t).last ≡ pos 0))
     ⊎ ((now : ℕ) × (e ≡ Clock now) × (expired now (before w t) ≡ true) × (last_number (after e w t).last ≡ neg_ℤ (pos 110)))
     ⊎ ((p : ℕ) × (i : ℕ) × (e ≡ Interrupt p i) × (t ≡ thread_number p i) × (last_number (after e w t).last ≡ neg_ℤ (pos 4)))
 came_back e w t on off = Fates.comes_back e w t on off (fate e w t)
 
 -- who ran and sleeps called a wait that sleeps;
 pub fell_asleep : (e : Event) (w : World) (t : ℕ) → (before w t).waiting ≡ false → (after e w t).waiting ≡ true
-    → (c : Call) × (o : Owning) × Asks e c o × (t ≡ caller c) × Sleeps c o w
+    → (c : Call) × (e ≡ CallEvent c) × (t ≡ caller c) × Sleeps c w
 fell_asleep e w t off on = Fates.falls_asleep e w t off on (fate e w t)
 
--- who sleeps on was moved by a requeue, had its priority set, or has the record that it had, but for the owner of its word; and who runs on had its
--- priority set, or has the record that it had, but for an owner, which a running thread of sound tables has not.
+-- who sleeps on was moved by a requeue, had its priority set, or has the record that it had; and who runs on had its priority set, or has
+-- the record that it had.
 pub slept_on : (e : Event) (w : World) (t : ℕ) → (before w t).waiting ≡ true → (after e w t).waiting ≡ true
-    → (but_owner (after e w t) ≡ but_owner (before w t))
-    ⊎ ((c : Call) × (o : Owning) × Asks e c o × (elem t (moved_by (command_of c.op) c w) ≡ true) × (but_owner (after e w t) ≡ but_owner (moved_to c.uaddr2 (before w t))))
+    → (after e w t ≡ before w t)
+    ⊎ ((c : Call) × (e ≡ CallEvent c) × (elem t (moved_by (command_of c.op) c w) ≡ true) × (after e w t ≡ moved_to c.uaddr2 (before w t)))
     ⊎ PrioritySet e w t
 slept_on e w t on still = Fates.sleeps_on e w t on still (fate e w t)
 
-pub ran_on : (e : Event) (w : World) (t : ℕ) → (before w t).waiting ≡ false → (after e w t).waiting ≡ false → (but_owner (after e w t) ≡ but_owner (before w t)) ⊎ PrioritySet e w t
+pub ran_on : (e : Event) (w : World) (t : ℕ) → (before w t).waiting ≡ false → (after e w t).waiting ≡ false → (after e w t ≡ before w t) ⊎ PrioritySet e w t
 ran_on e w t off still = Fates.runs_on e w t off still (fate e w t)
 
 pub records_read : (e : Event) (w : World) (t : ℕ)
@@ -594,8 +358,8 @@ slept_exactly t a h w = (Slept.slept_at t a h w, Slept.at_slept t a h w)
 -- Who enters called a wait that sleeps and saw its number there, or slept at the first word of a requeue that was answered a count;
 -- and it sleeps there afterwards.
 pub entered_by : (t a : ℕ) (e : Event) (w : World) → Enters t a e w
-    → ((c : Call) × (o : Owning) × Asks e c o × (t ≡ caller c) × (c.uaddr ≡ a) × ((step e w).answer ≡ Asleep) × (word_at w c.process a ≡ c.val))
-    ⊎ ((c : Call) × (o : Owning) × (n : ℕ) × Asks e c o × ((step e w).answer ≡ Count n) × (c.process ≡ process_of t) × (c.uaddr2 ≡ a) × (asleep_there t c.uaddr w ≡ true))
+    → ((c : Call) × (e ≡ CallEvent c) × (t ≡ caller c) × (c.uaddr ≡ a) × ((step e w).answer ≡ Asleep) × (word_at w c.process a ≡ c.val))
+    ⊎ ((c : Call) × (n : ℕ) × (e ≡ CallEvent c) × ((step e w).answer ≡ Count n) × (c.process ≡ process_of t) × (c.uaddr2 ≡ a) × (asleep_there t c.uaddr w ≡ true))
 entered_by = Slept.entered_by
 
 pub entered_asleep : (t a : ℕ) (e : Event) (w : World) → Enters t a e w → asleep_there t a (step e w).world ≡ true
@@ -628,10 +392,6 @@ pub alike_exactly : (p : ℕ) (u v : World) → length u.words ≡ length v.word
     × (filter (λ t. eqb (t / threads_per_process) p) (arrivals u.state) ≡ filter (λ t. eqb (t / threads_per_process) p) (arrivals v.state)))
 alike_exactly = Alike'.alike_exactly
 
--- So "owners" are the same too, which the claim says besides.
-pub alike_owners : (p : ℕ) (u v : World) → Alike p u v → (a : ℕ) → owner_of p a u.state ≡ owner_of p a v.state
-alike_owners p u v same = same.owners
-
 -- In worlds that are alike for a process, at one time, its next event is answered the same; that event or the clock leaves worlds that are
 -- alike for it, at one time; and every other event leaves each alike to what it was.
 pub alike_next : (p : ℕ) (u v : World) → length u.words ≡ memory_words → tables_ok u.state ≡ true → length v.words ≡ memory_words → tables_ok v.state ≡ true
@@ -640,8 +400,8 @@ pub alike_next : (p : ℕ) (u v : World) → length u.words ≡ memory_words →
     × ((belongs p e || is_clock e) ≡ true → ((step e u).world.state.clock ≡ (step e v).world.state.clock) × Alike p (step e u).world (step e v).world)
     × ((belongs p e || is_clock e) ≡ false → Alike p (step e u).world u)
 alike_next p u v lu ou lv ov time same e =
-    let g : Valid u = record { memory = lu; sound = tables_sound u.state ou; owned = tables_owned present u.state ou } in
-    let h : Valid v = record { memory = lv; sound = tables_sound v.state ov; owned = tables_owned present v.state ov } in (
+    let g : Valid u = record { memory = lu; sound = tables_sound u.state ou } in
+    let h : Valid v = record { memory = lv; sound = tables_sound v.state ov } in (
       Alike'.alike_own p u v g h time same e,
       (λ k. Alike'.alike_kept p u v g h time same e (Histories.kept_is p e ∙ k)),
       (λ k. Alike'.alike_other p e u (Histories.kept_is p e ∙ k)),
@@ -668,19 +428,6 @@ pub choice_given : (r : Choice) → let w = final r.happens (start (replicate me
     chosen_as r
     ≡ record { happens = r.happens; call = r.call; now = sleep_on (step r.call w); before = sleep_on (step_by_arrival r.call w) }
 choice_given r = refl
-
-pub owned_given : (r : Owned) → let w = start (replicate memory_words 0) in let s = (final r.happens w).state in
-    owned_as r
-    ≡ record {
-      happens = r.happens;
-      answers = map (λ a. (answer_numbers a, reason_number (reason_of a))) (answers r.happens w);
-      first = owner_of 0 8 s;
-      second = owner_of 0 12 s;
-    }
-owned_given r = refl
-
-pub ruled_given : (r : Ruled) → ruled_as r ≡ record { tables = r.tables; sound = tables_ok r.tables }
-ruled_given r = refl
 
 pub sleep_on_lem : (o : Outcome)
     → sleep_on o ≡ (answer_numbers o.answer, map (λ t. (t, (thread_of o.world.state t).uaddr)) (arrivals o.world.state))

@@ -11,7 +11,7 @@ use borrow.Author.Tests.{eqb-true, lt-leb, le-ltb, ltb-false, not-false}
 use Rattle.lists.proofs.Tests.{cases, by_cases, never, or_intro}
 use Rattle.tables.specs.declared.Thread.{Thread}
 use Rattle.rules.specs.declared.event.Event.{Event}
-use Rattle.rules.specs.declared.event.Event.TheVariants.{Call as CallEvent, Store, Clock, Interrupt, Query, SetPriority, OwnerWait, OwnerWake, OwnerRequeue, OwnerQuery}
+use Rattle.rules.specs.declared.event.Event.TheVariants.{Call as CallEvent, Store, Clock, Interrupt, Query, SetPriority}
 use Rattle.rules.specs.declared.answer.Refusal.{Refusal}
 use Rattle.rules.specs.declared.answer.Answer.TheVariants.{Count, Refused}
 use Rattle.tables.specs.Sizes.{processes, threads_per_process, memory_words, max_priority}
@@ -28,9 +28,9 @@ use Rattle.rules.proofs.Fate.{fate}
 module _ (e : Event) (w : World) (t : ℕ) where
   kept_or_set : Fate e w t → ((after e w t).priority ≡ (before w t).priority) ⊎ PrioritySet e w t
   kept_or_set (stays same) = inl (ap (λ (r : Thread). r.priority) same)
-  kept_or_set (sleeps is it s new) = inl (ap (λ (r : Thread). r.priority) new)
-  kept_or_set (wakes is out new) = inl (ap (λ (r : Thread). r.priority) new)
-  kept_or_set (moves is on new) = inl (ap (λ (r : Thread). r.priority) new)
+  kept_or_set (sleeps c is it s new) = inl (ap (λ (r : Thread). r.priority) new)
+  kept_or_set (wakes c is out new) = inl (ap (λ (r : Thread). r.priority) new)
+  kept_or_set (moves c is on new) = inl (ap (λ (r : Thread). r.priority) new)
   kept_or_set (times_out now is late new) = inl (ap (λ (r : Thread). r.priority) new)
   kept_or_set (is_interrupted p i is it was new) = inl (ap (λ (r : Thread). r.priority) new)
   kept_or_set (is_set set) = inr set
@@ -66,10 +66,6 @@ priority_by_lem (Clock now) w t = others_keep (Clock now) w t (λ p i n h. never
 priority_by_lem (Interrupt p i) w t = others_keep (Interrupt p i) w t (λ p i n h. never (cc))
 priority_by_lem (Query p) w t = others_keep (Query p) w t (λ p i n h. never (cc))
 priority_by_lem (SetPriority p i n) w t = set_by p i n w t
-priority_by_lem (OwnerWait x) w t = others_keep (OwnerWait x) w t (λ p i n h. never (cc))
-priority_by_lem (OwnerWake p i a) w t = others_keep (OwnerWake p i a) w t (λ p i n h. never (cc))
-priority_by_lem (OwnerRequeue x) w t = others_keep (OwnerRequeue x) w t (λ p i n h. never (cc))
-priority_by_lem (OwnerQuery p i a) w t = others_keep (OwnerQuery p i a) w t (λ p i n h. never (cc))
 
 -- event by event, a history
 module _ (one : (e : Event) (w : World) (t : ℕ) → (after e w t).priority ≡ priority_by e (step e w).answer t (before w t).priority) where

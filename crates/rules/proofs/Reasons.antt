@@ -1,46 +1,34 @@
 -- Reasons: the lowest that applies is given, with -22 and with no other answer.
 use mathlib.Core.Path.{◌≡◌, refl, sym, ap, ◌∙◌, subst}
-use mathlib.Core.Bool.{Bool, true, false, not, cond, beq, ◌&&◌, ◌||◌}
-use mathlib.Core.List.{List, [], ◌∷◌, ◌++◌}
+use mathlib.Core.Bool.{Bool, true, false, not, cond, beq, ◌&&◌}
+use mathlib.Core.List.{List, [], ◌∷◌}
 use mathlib.Core.Logic.{◌↔◌}
-use Prim.Native.Nat.{ℕ, suc, zero, ◌≤◌, ◌<◌, ◌%◌}
+use Prim.Native.Nat.{ℕ, ◌≤◌, ◌<◌, ◌%◌}
 use native.Mathlib.Omega.{arith}
-use lib.ListN.{length}
 use lib.Dec.{eqb, ltb}
 use lib.IntN.{ℤ, pos, negsuc, neg_ℤ}
 use borrow.Author.Tests.{ltb-true, ltb-false, lt-ltb, eqb-true, eqb-false, eq-eqb, ne_eqb, not-true, not-false}
-use Rattle.lists.specs.Lists.{filter, all, every_below}
-use Rattle.lists.proofs.Tests.{cases, clash, and_intro, and_left, and_right, or_left, or_right, beq_true}
-use Rattle.lists.proofs.Count.{every_below_at}
-use Rattle.lists.proofs.Update.{length_update}
-use Rattle.tables.specs.declared.State.{State}
-use Rattle.tables.specs.declared.Thread.{Thread}
+use Rattle.lists.specs.Lists.{filter, all}
+use Rattle.lists.proofs.Tests.{cases, clash, and_intro, and_left, and_right, beq_true}
 use Rattle.rules.specs.declared.event.Call.{Call}
-use Rattle.rules.specs.declared.event.Owning.{Owning}
 use Rattle.rules.specs.declared.event.Event.{Event}
-use Rattle.rules.specs.declared.event.Event.TheVariants.{Call as CallEvent, Store, Clock, Interrupt, Query, SetPriority, OwnerWait, OwnerWake, OwnerRequeue, OwnerQuery}
+use Rattle.rules.specs.declared.event.Event.TheVariants.{Call as CallEvent, Store, Clock, Interrupt, Query, SetPriority}
 use Rattle.rules.specs.declared.answer.Errno.{Errno}
 use Rattle.rules.specs.declared.answer.Errno.TheVariants.{ENXIO, EBADF, ESRCH, EBUSY, ENOSYS, EINVAL, EFAULT, EAGAIN, ETIMEDOUT}
 use Rattle.rules.specs.declared.answer.Reason.{Reason}
-use Rattle.rules.specs.declared.answer.Reason.TheVariants.{NoReason, FirstCap, SecondCap, MaskZero, UaddrUnaligned, Uaddr2Unaligned, SameAddress, ClockBack, PriorityHigh, OwnWord}
+use Rattle.rules.specs.declared.answer.Reason.TheVariants.{NoReason, FirstCap, SecondCap, MaskZero, UaddrUnaligned, Uaddr2Unaligned, SameAddress, ClockBack, PriorityHigh}
 use Rattle.rules.specs.declared.answer.Refusal.{Refusal}
-use Rattle.rules.specs.declared.answer.Verdict.TheVariants.{Refuse, Pass}
+use Rattle.rules.specs.declared.answer.Verdict.TheVariants.{Refuse}
 use Rattle.rules.specs.declared.answer.Answer.{Answer}
-use Rattle.rules.specs.declared.answer.Answer.TheVariants.{Asleep, Count, Refused, Waiting, Owner}
-use Rattle.tables.specs.Sizes.{threads, word_bytes, word_limit, max_cap, max_priority}
-use Rattle.tables.specs.Editions.{present}
-use Rattle.tables.specs.Tables.{World, index_of, thread_of, waits_for, every_sleeper, apart_in, aligned, change, end_in, move_in, sleep_in, set_owner_in, set_owner, write_word}
-use Rattle.rules.specs.Answers.{Row, errno_number, reason_number, reason_of, answer_numbers, ◌because◌, plain, ◌given◌, is_minus22, by_rows, first, is_refused}
+use Rattle.rules.specs.declared.answer.Answer.TheVariants.{Asleep, Count, Refused, Waiting}
+use Rattle.tables.specs.Sizes.{word_bytes, word_limit, max_cap, max_priority}
+use Rattle.tables.specs.Tables.{World, aligned}
+use Rattle.rules.specs.Answers.{Row, errno_number, reason_number, reason_of, answer_numbers, is_minus22, first, reason_among, is_refused}
 use Rattle.rules.specs.Commands.{command_of, uses}
-use Rattle.rules.specs.WakeOp.{compares}
-use Rattle.rules.specs.Calls.{wrong_memory, broken_tables, first_rows, argument_rows, front_in, rows_in, old_word, wait, wake, requeue, wake_op, left_by, would_own, asked_rows}
-use Rattle.rules.specs.Events.{is_query, own_rows, refusals, effect, step}
-use Rattle.rules.specs.Claims.{TestedAs, itself, as_wake, as_call, as_owner_wait, as_owner_wake, as_owner_requeue, Fault, first_cap, second_cap, mask_zero, uaddr_unaligned, address_unaligned, uaddr2_unaligned, same_address, clock_back, priority_high, own_word}
-use Rattle.tables.proofs.Changes.{length_change}
-use Rattle.tables.proofs.Sound.{beyond}
-use Rattle.rules.proofs.Commands.{by_command}
-use Rattle.rules.proofs.Rows.{not_pass, all_rows, tested_rows, ◌and◌, verdicts, step_refused, step_clear}
-use Rattle.rules.proofs.Passed.{sound_of}
+use Rattle.rules.specs.Calls.{argument_rows, rows_in}
+use Rattle.rules.specs.Events.{refusals, effect, step}
+use Rattle.rules.specs.Claims.{Fault, first_cap, second_cap, mask_zero, uaddr_unaligned, address_unaligned, uaddr2_unaligned, same_address, clock_back, priority_high}
+use Rattle.rules.proofs.Rows.{not_pass, rows_refused, ◌and◌, verdicts, step_refused, step_clear}
 use Rattle.rules.proofs.Refused.{granted, refused_row, refusal_of}
 
 -- a row of the table
@@ -104,124 +92,54 @@ abbrev fitting : Row → Bool
 fitting r = beq (has_reason r.refusal.reason) (is_invalid r.refusal.errno)
 
 table_fitting : (e : Event) (w : World) → all fitting (refusals e w) ≡ true
-unfolding refusals rows_in front_in argument_rows
+unfolding refusals rows_in argument_rows
 table_fitting (CallEvent c) w = refl
 table_fitting (Store p a v) w = refl
 table_fitting (Clock now) w = refl
 table_fitting (Interrupt p i) w = refl
 table_fitting (Query p) w = refl
 table_fitting (SetPriority p i n) w = refl
-table_fitting (OwnerWait x) w = refl
-table_fitting (OwnerWake p i a) w = refl
-table_fitting (OwnerRequeue x) w = refl
-table_fitting (OwnerQuery p i a) w = refl
-
-call_rising : (c : Call) (o : Owning) (w : World) → Rising 1 (invalid (first_rows w ++ asked_rows c o w))
-unfolding rows_in front_in argument_rows
-call_rising c o w = omega arith and omega arith and omega arith and omega arith and omega arith and omega arith and omega arith and tt
 
 table_rising : (e : Event) (w : World) → Rising 1 (invalid (refusals e w))
-unfolding refusals
-table_rising (CallEvent c) w = call_rising c _ w
+unfolding refusals rows_in argument_rows
+table_rising (CallEvent c) w = omega arith and omega arith and omega arith and omega arith and omega arith and omega arith and tt
 table_rising (Store p a v) w = omega arith and tt
 table_rising (Clock now) w = omega arith and tt
 table_rising (Interrupt p i) w = tt
 table_rising (Query p) w = tt
 table_rising (SetPriority p i n) w = omega arith and tt
-table_rising (OwnerWait x) w = call_rising _ _ w
-table_rising (OwnerWake p i a) w = call_rising _ _ w
-table_rising (OwnerRequeue x) w = call_rising _ _ w
-table_rising (OwnerQuery p i a) w = call_rising _ _ w
-
--- Whom a call would leave asleep on its own word, if the test of it applies.
-not_every : (n : ℕ) (f : ℕ → Bool) → every_below n f ≡ false → (t : ℕ) × (f t ≡ false)
-unfolding every_below
-not_every zero f h = clash true refl h
-not_every (suc n) f h = cases (every_below n f) (λ e. (n, rw e at h)) (λ e. not_every n f e)
-
-pub own_word_lem : (s : State) → apart_in present s ≡ false → (t : ℕ) × ((thread_of s t).waiting ≡ true) × (waits_for s t ≡ index_of t)
-unfolding apart_in every_sleeper
-own_word_lem s h =
-    let f : ℕ → Bool = λ t. not (eqb (waits_for s t) (index_of t)) in
-    let some = not_every threads (λ t. not (thread_of s t).waiting || f t) h in
-    let t = some.0 in
-    (t, not-false _ (or_left (not (thread_of s t).waiting) (f t) some.1), eqb-true _ _ (not-false _ (or_right (not (thread_of s t).waiting) (f t) some.1)))
-
--- Where there are as many records as threads, a call leaves as many, and so whoever sleeps afterwards is one that is tested.
-set_size : (p a n : ℕ) (s : State) → length (set_owner p a n s).threads ≡ length s.threads
-unfolding set_owner_in
-set_size p a n s = length_update _ s.threads
-
-left_size : (c : Call) (o : Owning) (w : World) → length (left_by c o w).threads ≡ length w.state.threads
-unfolding wait wake requeue wake_op sleep_in end_in move_in write_word
-left_size c o w = by_command (λ k f. length (f c o w).world.state.threads ≡ length w.state.threads)
-    (λ k i. set_size _ _ _ _ ∙ length_change _ _ w.state.threads)
-    (λ k. set_size _ _ _ _ ∙ length_change _ _ w.state.threads)
-    (λ k. set_size _ _ _ _ ∙ set_size _ _ _ _ ∙ length_change _ _ (change _ _ w.state.threads) ∙ length_change _ _ w.state.threads)
-    (cases (compares c.val3 (old_word c w))
-    (λ e. rw e (set_size _ _ _ _ ∙ set_size _ _ _ _ ∙ length_change _ _ w.state.threads))
-    (λ e. rw e (set_size _ _ _ _ ∙ length_change _ _ w.state.threads)))
-    refl (command_of c.op)
-
-pub on_own_word_lem : (s : State) → length s.threads ≡ threads → (t : ℕ) → (thread_of s t).waiting ≡ true → waits_for s t ≡ index_of t → apart_in present s ≡ false
-unfolding apart_in every_sleeper
-on_own_word_lem s size t on own = cases (apart_in present s)
-    (λ h. cases (ltb t threads)
-    (λ low. clash true refl (sym (rw (on, eq-eqb _ _ own) at (every_below_at threads (λ t. not (thread_of s t).waiting || not (eqb (waits_for s t) (index_of t))) h t (ltb-true t threads low)))))
-    (λ high. clash (thread_of s t).waiting on (ap (λ (r : Thread). r.waiting) (beyond present s size t (ltb-false t threads high)))))
-    (λ h. h)
 
 -- each of them tests for a fault of the event
 by_both : {P : Type 0} (a b : Bool) → (a ≡ true → b ≡ true → P) → (a && b) ≡ true → P
 by_both a b f h = f (and_left a b h) (and_right a b h)
 
-tested_fault : {e : Event} {c : Call} {o : Owning} → TestedAs e c o → (w : World) → Each (λ q. Fault w q e) (invalid (first_rows w ++ asked_rows c o w))
-unfolding rows_in front_in argument_rows would_own
-tested_fault {c = c} {o = o} is w =
-    by_both (uses (command_of c.op)).cap (ltb max_cap c.val) (λ on h. first_cap is on (ltb-true max_cap c.val h))
-    and by_both (uses (command_of c.op)).second (ltb max_cap (c.timeout % word_limit)) (λ on h. second_cap is on (ltb-true max_cap (c.timeout % word_limit) h))
-    and by_both (uses (command_of c.op)).mask (eqb c.val3 0) (λ on h. mask_zero is on (eqb-true c.val3 0 h))
-    and (λ h. uaddr_unaligned is (eqb-false (c.uaddr % word_bytes) 0 (not-true _ h)))
-    and by_both (uses (command_of c.op)).second (not (aligned c.uaddr2)) (λ on h. uaddr2_unaligned is on (eqb-false (c.uaddr2 % word_bytes) 0 (not-true _ h)))
-    and by_both (uses (command_of c.op)).moves (eqb c.uaddr c.uaddr2) (λ on h. same_address is on (eqb-true c.uaddr c.uaddr2 h))
-    and (λ h. let own = own_word_lem (left_by c o w) (not-true _ h) in own_word own.0 is own.1 own.2)
-    and tt
-
 each_fault : (e : Event) (w : World) → Each (λ q. Fault w q e) (invalid (refusals e w))
-unfolding refusals
-each_fault (CallEvent c) w = tested_fault (itself (as_call c)) w
+unfolding refusals rows_in argument_rows
+each_fault (CallEvent c) w =
+    by_both (uses (command_of c.op)).cap (ltb max_cap c.val) (λ on h. first_cap c on (ltb-true max_cap c.val h))
+    and by_both (uses (command_of c.op)).second (ltb max_cap (c.timeout % word_limit)) (λ on h. second_cap c on (ltb-true max_cap (c.timeout % word_limit) h))
+    and by_both (uses (command_of c.op)).mask (eqb c.val3 0) (λ on h. mask_zero c on (eqb-true c.val3 0 h))
+    and (λ h. uaddr_unaligned c (eqb-false (c.uaddr % word_bytes) 0 (not-true _ h)))
+    and by_both (uses (command_of c.op)).second (not (aligned c.uaddr2)) (λ on h. uaddr2_unaligned c on (eqb-false (c.uaddr2 % word_bytes) 0 (not-true _ h)))
+    and by_both (uses (command_of c.op)).moves (eqb c.uaddr c.uaddr2) (λ on h. same_address c on (eqb-true c.uaddr c.uaddr2 h))
+    and tt
 each_fault (Store p a v) w = (λ h. address_unaligned p a v (eqb-false (a % word_bytes) 0 (not-true _ h))) and tt
 each_fault (Clock now) w = (λ h. clock_back now (ltb-true now w.state.clock h)) and tt
 each_fault (Interrupt p i) w = tt
 each_fault (Query p) w = tt
 each_fault (SetPriority p i n) w = (λ h. priority_high p i n (ltb-true max_priority n h)) and tt
-each_fault (OwnerWait x) w = tested_fault (itself (as_owner_wait x)) w
-each_fault (OwnerWake p i a) w = tested_fault (itself (as_owner_wake p i a)) w
-each_fault (OwnerRequeue x) w = tested_fault (itself (as_owner_requeue x)) w
-each_fault (OwnerQuery p i a) w = tested_fault (as_wake p i a) w
 
--- and each fault has its row, which applies
-abbrev HasRow : World → Reason → Event → Type 0
-HasRow w q e = (r : Row) × In r (invalid (refusals e w)) × (r.refusal.reason ≡ q) × (r.applies ≡ true)
-
-has_row : {e : Event} {c : Call} {o : Owning} → TestedAs e c o → (w : World) (q : Reason) (r : Row) → In r (invalid (first_rows w ++ asked_rows c o w))
-    → r.refusal.reason ≡ q → r.applies ≡ true → HasRow w q e
-has_row is w q r i same on = rw (tested_rows is w) (r, i, same, on)
-
-fault_in : (e : Event) (w : World) → length w.state.threads ≡ threads → (q : Reason) → Fault w q e → HasRow w q e
-unfolding refusals rows_in front_in argument_rows would_own
-fault_in _ w size _ (first_cap {c = c} is u l) = has_row is w _ _ at refl (and_intro u (lt-ltb max_cap c.val l))
-fault_in _ w size _ (second_cap {c = c} is u l) = has_row is w _ _ (behind at) refl (and_intro u (lt-ltb max_cap (c.timeout % word_limit) l))
-fault_in _ w size _ (mask_zero {c = c} is u z) = has_row is w _ _ (behind (behind at)) refl (and_intro u (eq-eqb c.val3 0 z))
-fault_in _ w size _ (uaddr_unaligned {c = c} is n) = has_row is w _ _ (behind (behind (behind at))) refl (ap not (ne_eqb (c.uaddr % word_bytes) 0 n))
-fault_in _ w size _ (uaddr2_unaligned {c = c} is u n) =
-    has_row is w _ _ (behind (behind (behind (behind at)))) refl (and_intro u (ap not (ne_eqb (c.uaddr2 % word_bytes) 0 n)))
-fault_in _ w size _ (same_address {c = c} is u s) = has_row is w _ _ (behind (behind (behind (behind (behind at))))) refl (and_intro u (eq-eqb c.uaddr c.uaddr2 s))
-fault_in _ w size _ (own_word {c = c} {o = o} t is on own) =
-    has_row is w _ _ (behind (behind (behind (behind (behind (behind at)))))) refl (ap not (on_own_word_lem (left_by c o w) (left_size c o w ∙ size) t on own))
-fault_in _ w size _ (address_unaligned p a v n) = (_, at, refl, ap not (ne_eqb (a % word_bytes) 0 n))
-fault_in _ w size _ (clock_back now l) = (_, at, refl, lt-ltb now w.state.clock l)
-fault_in _ w size _ (priority_high p i n l) = (_, at, refl, lt-ltb max_priority n l)
+fault_in : (e : Event) (w : World) (q : Reason) → Fault w q e → (r : Row) × In r (invalid (refusals e w)) × (r.refusal.reason ≡ q) × (r.applies ≡ true)
+unfolding refusals rows_in argument_rows
+fault_in _ w _ (first_cap c u l) = (_, at, refl, and_intro u (lt-ltb max_cap c.val l))
+fault_in _ w _ (second_cap c u l) = (_, behind at, refl, and_intro u (lt-ltb max_cap (c.timeout % word_limit) l))
+fault_in _ w _ (mask_zero c u z) = (_, behind (behind at), refl, and_intro u (eq-eqb c.val3 0 z))
+fault_in _ w _ (uaddr_unaligned c n) = (_, behind (behind (behind at)), refl, ap not (ne_eqb (c.uaddr % word_bytes) 0 n))
+fault_in _ w _ (uaddr2_unaligned c u n) = (_, behind (behind (behind (behind at))), refl, and_intro u (ap not (ne_eqb (c.uaddr2 % word_bytes) 0 n)))
+fault_in _ w _ (same_address c u s) = (_, behind (behind (behind (behind (behind at)))), refl, and_intro u (eq-eqb c.uaddr c.uaddr2 s))
+fault_in _ w _ (address_unaligned p a v n) = (_, at, refl, ap not (ne_eqb (a % word_bytes) 0 n))
+fault_in _ w _ (clock_back now l) = (_, at, refl, lt-ltb now w.state.clock l)
+fault_in _ w _ (priority_high p i n l) = (_, at, refl, lt-ltb max_priority n l)
 
 -- Reasons by number: 0 is no reason, and no two have one number.
 abbrev numbered : ℕ → Reason
@@ -233,8 +151,7 @@ numbered n =
     (cond (eqb n 5) Uaddr2Unaligned
     (cond (eqb n 6) SameAddress
     (cond (eqb n 7) ClockBack
-    (cond (eqb n 8) PriorityHigh
-    (cond (eqb n 9) OwnWord NoReason))))))))
+    (cond (eqb n 8) PriorityHigh NoReason)))))))
 
 number_back : (r : Reason) → numbered (reason_number r) ≡ r
 number_back NoReason = refl
@@ -246,7 +163,6 @@ number_back Uaddr2Unaligned = refl
 number_back SameAddress = refl
 number_back ClockBack = refl
 number_back PriorityHigh = refl
-number_back OwnWord = refl
 
 same_reason : (q r : Reason) → reason_number q ≡ reason_number r → q ≡ r
 same_reason q r h = sym (number_back q) ∙ ap numbered h ∙ number_back r
@@ -257,7 +173,6 @@ refuses22 Asleep = false
 refuses22 (Count n) = false
 refuses22 (Refused x) = is_invalid x.errno
 refuses22 (Waiting v) = false
-refuses22 (Owner n) = false
 
 pub errno_22 : (x : Errno) → is_minus22 (neg_ℤ (pos (errno_number x))) ≡ is_invalid x
 errno_22 ENXIO = refl
@@ -284,7 +199,6 @@ minus_22 Asleep h = clash true refl (sym h)
 minus_22 (Count n) h = clash true refl (sym h)
 minus_22 (Refused x) h = only_22 (neg_ℤ (pos (errno_number x.errno))) (errno_22 x.errno ∙ h)
 minus_22 (Waiting v) h = clash true refl (sym h)
-minus_22 (Owner n) h = clash true refl (sym h)
 
 -- Such an answer has a reason, and no other has one.
 first_all : (f : Row → Bool) (rs : List Row) → all f rs ≡ true → (x : Refusal) → first rs ≡ Refuse x → (b : Bool) × (f (record { refusal = x; applies = b }) ≡ true)
@@ -298,7 +212,6 @@ not_refused Asleep h = refl
 not_refused (Count n) h = refl
 not_refused (Refused x) h = clash true refl h
 not_refused (Waiting v) h = refl
-not_refused (Owner n) h = refl
 
 reason_with_22 : (e : Event) (w : World) → has_reason (reason_of (step e w).answer) ≡ refuses22 (step e w).answer
 reason_with_22 e w = verdicts e w
@@ -314,33 +227,15 @@ reason_none e w =
           (λ off. same_reason (reason_of a) NoReason (eqb-true (reason_number (reason_of a)) 0 (not-false _ (reason_with_22 e w ∙ off))))),
     )
 
--- what is refused with -22 has passed the first two rows
-no_rows : (e : Event) (w : World) → is_query e ≡ true → refusals e w ≡ []
-unfolding refusals
-no_rows e w q = rw q
-
-first_sound : (e : Event) (w : World) (x : Refusal) → first (refusals e w) ≡ Refuse x → is_invalid x.errno ≡ true → broken_tables w ≡ false
-first_sound e w x h is = cases (is_query e)
-    (λ q. let none : Pass ≡ Refuse x = sym (ap first (no_rows e w q)) ∙ h in not_pass (sym none))
-    (λ q.
-    let rows : first (first_rows w ++ own_rows e w) ≡ Refuse x = sym (ap first (all_rows e w q)) ∙ h in
-    cases (wrong_memory w)
-    (λ wrong. let same : plain ENXIO ≡ x = cc in clash (is_invalid x.errno) is (rw (sym same)))
-    (λ right. cases (broken_tables w)
-    (λ bad. let same : plain EBADF ≡ x = cc in clash (is_invalid x.errno) is (rw (sym same)))
-    (λ good. good)))
-
 -- The reason of an answer that is -22: a fault of the event, and the lowest that it has.
 refused_22 : (e : Event) (w : World) (a : Answer) → (step e w).answer ≡ a → refuses22 a ≡ true
-    → (x : Refusal) × (first (invalid (refusals e w)) ≡ Refuse x) × (reason_of a ≡ x.reason) × (broken_tables w ≡ false)
+    → (x : Refusal) × (first (invalid (refusals e w)) ≡ Refuse x) × (reason_of a ≡ x.reason)
 refused_22 e w Asleep is h = clash true refl (sym h)
 refused_22 e w (Count n) is h = clash true refl (sym h)
-refused_22 e w (Refused x) is h = let row = refused_row e w x is in (x, first_invalid (refusals e w) x row h, refl, first_sound e w x row h)
+refused_22 e w (Refused x) is h = (x, first_invalid (refusals e w) x (refused_row e w x is) h, refl)
 refused_22 e w (Waiting v) is h = clash true refl (sym h)
-refused_22 e w (Owner n) is h = clash true refl (sym h)
 
--- So a number that is -22 and the event alone tell the reason: of a call its arguments and, if these are right, its own word; of a store and of the
--- clock there is but one.
+-- So a number that is -22 and the event alone tell the reason: of a call its arguments, of a store and of the clock there is but one.
 pub reason_told : (e : Event) (w : World) (wrong : Reason) → (refuses22 (step e w).answer ≡ true → reason_of (step e w).answer ≡ wrong)
     → cond (refuses22 (step e w).answer) wrong NoReason ≡ reason_of (step e w).answer
 reason_told e w wrong h =
@@ -349,16 +244,12 @@ reason_told e w wrong h =
     (λ on. rw on (sym (h on)))
     (λ off. rw off (sym ((reason_none e w).1 (λ n. clash (refuses22 a) (numbers_22 a n) off))))
 
-last_reason : (rs : List Row) (r : Row) (x : Refusal) → first (rs ++ (r ∷ [])) ≡ Refuse x → by_rows (λ y. y.reason) rs r.refusal.reason ≡ x.reason
-last_reason [] r x h = cases r.applies (λ e. let same : r.refusal ≡ x = cc in rw same) (λ e. not_pass (sym (rw e at h)))
-last_reason (q ∷ rs) r x h = cases q.applies (λ e. let same : q.refusal ≡ x = cc in rw (e, same)) (λ e. rw e (last_reason rs r x (cc)))
-
-pub call_reason : {e : Event} {c : Call} {o : Owning} → TestedAs e c o → (w : World) → refuses22 (step e w).answer ≡ true
-    → reason_of (step e w).answer ≡ by_rows (λ x. x.reason) (argument_rows (command_of c.op) c) OwnWord
-unfolding rows_in front_in argument_rows
-call_reason {e} {c} {o} is w h =
-    let by = refused_22 e w (step e w).answer refl h in
-    by.2 ∙ sym (last_reason (argument_rows (command_of c.op) c) (EINVAL because OwnWord given would_own c o w) by.0 (rw (tested_rows is w) at by.1))
+pub call_reason : (c : Call) (w : World) → refuses22 (step (CallEvent c) w).answer ≡ true
+    → reason_of (step (CallEvent c) w).answer ≡ reason_among (argument_rows (command_of c.op) c)
+unfolding refusals rows_in argument_rows
+call_reason c w h =
+    let by = refused_22 (CallEvent c) w (step (CallEvent c) w).answer refl h in
+    by.2 ∙ sym (rows_refused (λ x. x.reason) (argument_rows (command_of c.op) c) NoReason by.0 by.1)
 
 one_reason : (e : Event) (w : World) (r : Reason) → Each (λ q. q ≡ r) (invalid (refusals e w)) → refuses22 (step e w).answer ≡ true
     → reason_of (step e w).answer ≡ r
@@ -393,7 +284,7 @@ lowest_fault e w h =
     let rows = invalid (refusals e w) in (
       rw by.2 (first_tells (λ q. Fault w q e) rows (each_fault e w) by.0 by.1),
       (λ q f.
-          let row = fault_in e w (sound_of w by.3).records q f in
+          let row = fault_in e w q f in
           rw (by.2, sym row.2) (lowest 1 rows by.0 (table_rising e w) by.1 row.0 row.1 row.3)),
     )
 

@@ -9,48 +9,41 @@ use lib.IntN.{ℤ, pos, negsuc, neg_ℤ}
 use Rattle.lists.proofs.Tests.{cases, clash, by_cases}
 use Rattle.rules.specs.declared.event.Command.{Command}
 use Rattle.rules.specs.declared.event.Call.{Call}
-use Rattle.rules.specs.declared.event.Owning.{Owning}
 use Rattle.rules.specs.declared.event.Event.{Event}
-use Rattle.rules.specs.declared.event.Event.TheVariants.{Call as CallEvent, Store, Clock, Interrupt, Query, SetPriority, OwnerWait, OwnerWake, OwnerRequeue, OwnerQuery}
+use Rattle.rules.specs.declared.event.Event.TheVariants.{Call as CallEvent, Store, Clock, Interrupt, Query, SetPriority}
 use Rattle.rules.specs.declared.answer.Refusal.{Refusal}
 use Rattle.rules.specs.declared.answer.Verdict.TheVariants.{Refuse}
 use Rattle.rules.specs.declared.answer.Answer.{Answer}
-use Rattle.rules.specs.declared.answer.Answer.TheVariants.{Asleep, Count, Refused, Waiting, Owner}
+use Rattle.rules.specs.declared.answer.Answer.TheVariants.{Asleep, Count, Refused, Waiting}
 use Rattle.tables.specs.Tables.{World, thread_number, thread_of}
 use Rattle.rules.specs.Answers.{errno_number, answer_numbers, first, is_refused}
 use Rattle.rules.specs.Commands.{command_of, is_unknown}
 use Rattle.rules.specs.Calls.{wait, wake, requeue, wake_op, call_effect}
 use Rattle.rules.specs.Events.{refusals, clock_effect, interrupt_effect, effect, step}
-use Rattle.rules.specs.Claims.{Clear, Asks, as_call, as_owner_wait, as_owner_wake, as_owner_requeue}
+use Rattle.rules.specs.Claims.{Clear}
 use Rattle.rules.proofs.Commands.{by_command}
-use Rattle.rules.proofs.Rows.{asks_rows, asks_effect, verdicts, step_refused, step_clear}
+use Rattle.rules.proofs.Rows.{verdicts, step_refused, step_clear}
 use Rattle.rules.proofs.Passed.{clear_passed}
 
 -- a call that is not refused sleeps or is answered a count
-pub granted_answer : (k : Command) (c : Call) (o : Owning) (w : World) → is_unknown k ≡ false
-    → ((call_effect k c o w).answer ≡ Asleep) ⊎ ((n : ℕ) × ((call_effect k c o w).answer ≡ Count n))
+pub granted_answer : (k : Command) (c : Call) (w : World) → is_unknown k ≡ false
+    → ((call_effect k c w).answer ≡ Asleep) ⊎ ((n : ℕ) × ((call_effect k c w).answer ≡ Count n))
 unfolding wait wake requeue wake_op
-granted_answer k c o w = by_command (λ k f. is_unknown k ≡ false → ((f c o w).answer ≡ Asleep) ⊎ ((n : ℕ) × ((f c o w).answer ≡ Count n)))
+granted_answer k c w = by_command (λ k f. is_unknown k ≡ false → ((f c w).answer ≡ Asleep) ⊎ ((n : ℕ) × ((f c w).answer ≡ Count n)))
     (λ k i h. inl refl) (λ k h. inr (_, refl)) (λ k h. inr (_, refl)) (λ h. inr (_, refl)) (λ h. clash true refl h) k
 
-module _ {e : Event} {c : Call} {o : Owning} (is : Asks e c o) (w : World) where
-  call_granted : Clear (refusals e w) → is_refused (effect e w).answer ≡ false
-  call_granted h = rw (asks_effect is w)
-      (by_cases (granted_answer (command_of c.op) c o w (clear_passed c o w (rw (asks_rows is w) at h)).known) (λ a. rw a) (λ a. rw a.1))
+call_granted : (k : Command) (c : Call) (w : World) → is_unknown k ≡ false → is_refused (call_effect k c w).answer ≡ false
+call_granted k c w h = by_cases (granted_answer k c w h) (λ a. rw a) (λ a. rw a.1)
 
 -- where no row applies, the answer is no refusal
 pub granted : (e : Event) (w : World) → Clear (refusals e w) → is_refused (effect e w).answer ≡ false
-unfolding effect clock_effect interrupt_effect
-granted (CallEvent c) w h = call_granted (as_call c) w h
+unfolding effect refusals clock_effect interrupt_effect
+granted (CallEvent c) w h = call_granted (command_of c.op) c w (clear_passed c w h).known
 granted (Store p a v) w h = refl
 granted (Clock now) w h = refl
 granted (Interrupt p i) w h = cases (thread_of w.state (thread_number p i)).waiting (λ e. rw e) (λ e. rw e)
 granted (Query p) w h = refl
 granted (SetPriority p i n) w h = refl
-granted (OwnerWait x) w h = call_granted (as_owner_wait x) w h
-granted (OwnerWake p i a) w h = call_granted (as_owner_wake p i a) w h
-granted (OwnerRequeue x) w h = call_granted (as_owner_requeue x) w h
-granted (OwnerQuery p i a) w h = refl
 
 pub refused_row : (e : Event) (w : World) (x : Refusal) → (step e w).answer ≡ Refused x → first (refusals e w) ≡ Refuse x
 refused_row e w x h = verdicts e w
@@ -75,4 +68,3 @@ refusal_of Asleep n h = not_below (ap below_zero h)
 refusal_of (Count k) n h = not_below (ap below_zero h)
 refusal_of (Refused x) n h = (x, refl, sym (below_zero_neg (errno_number x.errno)) ∙ ap below_zero h)
 refusal_of (Waiting v) n h = not_below (ap below_zero h)
-refusal_of (Owner k) n h = not_below (ap below_zero h)

@@ -8,15 +8,13 @@ use Rattle.rules.specs.declared.answer.Refusal.{Refusal}
 use Rattle.rules.specs.declared.answer.Verdict.{Verdict}
 use Rattle.rules.specs.declared.answer.Verdict.TheVariants.{Refuse, Pass}
 use Rattle.rules.specs.declared.answer.Answer.TheVariants.{Count, Refused}
-use Rattle.rules.specs.declared.event.Call.{Call}
-use Rattle.rules.specs.declared.event.Owning.{Owning}
 use Rattle.rules.specs.declared.event.Event.{Event}
 use Rattle.tables.specs.Editions.{Edition}
 use Rattle.tables.specs.Tables.{WorldIn}
 use Rattle.rules.specs.Answers.{Row, by_rows, first, OutcomeIn, outcome, judged}
-use Rattle.rules.specs.Calls.{first_rows, asked_rows}
-use Rattle.rules.specs.Events.{own_rows, is_query, refusals, performed, effect, step}
-use Rattle.rules.specs.Claims.{FirstOf, here, later, Clear, Asks, as_call, as_owner_wait, as_owner_wake, as_owner_requeue, TestedAs, itself, as_wake}
+use Rattle.rules.specs.Calls.{first_rows}
+use Rattle.rules.specs.Events.{own_rows, is_query, refusals, effect, step}
+use Rattle.rules.specs.Claims.{FirstOf, here, later, Clear}
 
 pub not_pass {ℓ} : {P : Type ℓ} {x : Refusal} → Refuse x ≡ Pass → P
 not_pass e = never (cc)
@@ -83,25 +81,6 @@ module _ {ℓ} {A : Type ℓ} (f : Refusal → A) where
 pub all_rows : {ed : Edition} (e : Event) (w : WorldIn ed) → is_query e ≡ false → refusals e w ≡ first_rows w ++ own_rows e w
 unfolding refusals
 all_rows e w h = rw h
-
--- the rows of what is tested as a call, and what a call does
-pub tested_rows : {ed : Edition} {e : Event} {c : Call} {o : Owning} → TestedAs e c o → (w : WorldIn ed) → refusals e w ≡ first_rows w ++ asked_rows c o w
-unfolding refusals
-tested_rows (itself (as_call c)) w = refl
-tested_rows (itself (as_owner_wait x)) w = refl
-tested_rows (itself (as_owner_wake p i a)) w = refl
-tested_rows (itself (as_owner_requeue x)) w = refl
-tested_rows (as_wake p i a) w = refl
-
-pub asks_rows : {ed : Edition} {e : Event} {c : Call} {o : Owning} → Asks e c o → (w : WorldIn ed) → refusals e w ≡ first_rows w ++ asked_rows c o w
-asks_rows is = tested_rows (itself is)
-
-pub asks_effect : {ed : Edition} {e : Event} {c : Call} {o : Owning} → Asks e c o → (w : WorldIn ed) → effect e w ≡ performed c o w
-unfolding effect
-asks_effect (as_call c) w = refl
-asks_effect (as_owner_wait x) w = refl
-asks_effect (as_owner_wake p i a) w = refl
-asks_effect (as_owner_requeue x) w = refl
 
 -- The same errors in the same order, and each test the same where no earlier one applies.
 abbrev pub Same : List Row → List Row → Type 0

@@ -1,6 +1,6 @@
 -- Demand 2, waits: when exactly a call is answered "asleep", and what it then leaves.
 use mathlib.Core.Path.{◌≡◌, sym, ap, ◌∙◌}
-use mathlib.Core.Bool.{true, false, not, ◌&&◌}
+use mathlib.Core.Bool.{true, false, ◌&&◌}
 use Prim.Native.Nat.{ℕ, ◌%◌, ◌<◌}
 use lib.Dec.{eqb}
 use borrow.Author.Tests.{eqb-true, eqb-false, eq-eqb, ne_eqb, leb-false, lt-leb, not-false}
@@ -8,32 +8,29 @@ use Rattle.lists.proofs.Tests.{cases, by_cases, never}
 use Rattle.rules.specs.declared.event.Command.{Command}
 use Rattle.rules.specs.declared.event.Command.TheVariants.{WaitBitset}
 use Rattle.rules.specs.declared.event.Call.{Call}
-use Rattle.rules.specs.declared.event.Owning.{Owning}
-use Rattle.rules.specs.declared.event.Event.{Event}
+use Rattle.rules.specs.declared.event.Event.TheVariants.{Call as CallEvent}
 use Rattle.rules.specs.declared.answer.Answer.TheVariants.{Asleep}
-use Rattle.tables.specs.Editions.{present}
 use Rattle.tables.specs.Sizes.{word_bytes, bytes_per_process}
-use Rattle.tables.specs.Tables.{World, word_at, owner_of, with_state, fall_asleep, set_owner}
+use Rattle.tables.specs.Tables.{World, word_at, with_state, fall_asleep}
 use Rattle.rules.specs.Commands.{command_of, is_unknown, bit_set, clock_bit, uses}
 use Rattle.rules.specs.WakeOp.{undefined_op}
-use Rattle.rules.specs.Calls.{caller, timeout_given, deadline_of, argument_rows, bad_address, is_wake_op, differs, late, owner_given, wait, wake, requeue, wake_op, call_effect}
-use Rattle.rules.specs.Events.{step}
-use Rattle.rules.specs.Claims.{Clear, IsWait, Sleeps, sleeps_by, Asks}
+use Rattle.rules.specs.Calls.{caller, timeout_given, deadline_of, argument_rows, bad_address, is_wake_op, differs, late, wait, wake, requeue, wake_op, call_effect}
+use Rattle.rules.specs.Events.{refusals, effect, step}
+use Rattle.rules.specs.Claims.{Clear, IsWait, Sleeps, sleeps_by}
 use Rattle.rules.proofs.Commands.{by_command}
-use Rattle.rules.proofs.Rows.{◌and◌, asks_rows, asks_effect, verdicts, step_refused, step_clear}
-use Rattle.tables.proofs.Sound.{tables_sound}
-use Rattle.tables.proofs.Owners.{tables_owned, sound_tables}
+use Rattle.rules.proofs.Rows.{◌and◌, verdicts, step_refused, step_clear}
+use Rattle.tables.proofs.Sound.{tables_sound, sound_tables}
 use Rattle.rules.proofs.Passed.{Passed, clear_passed, passed_clear, uaddr_aligned, mask_given, uaddr_inside}
 
 -- the answers of the commands
-wait_answer : (k : Command) (c : Call) (o : Owning) (w : World) → (call_effect k c o w).answer ≡ Asleep → IsWait k
+wait_answer : (k : Command) (c : Call) (w : World) → (call_effect k c w).answer ≡ Asleep → IsWait k
 unfolding wake requeue wake_op
-wait_answer k c o w = by_command (λ k f. (f c o w).answer ≡ Asleep → IsWait k)
+wait_answer k c w = by_command (λ k f. (f c w).answer ≡ Asleep → IsWait k)
     (λ k i h. i) (λ k h. never (cc)) (λ k h. never (cc)) (λ h. never (cc)) (λ h. never (cc)) k
 
-wait_is : (k : Command) (c : Call) (o : Owning) (w : World) → IsWait k → call_effect k c o w ≡ wait k c o w
+wait_is : (k : Command) (c : Call) (w : World) → IsWait k → call_effect k c w ≡ wait k c w
 unfolding call_effect
-wait_is k c o w i = by_cases i (λ e. rw e) (λ e. rw e)
+wait_is k c w i = by_cases i (λ e. rw e) (λ e. rw e)
 
 -- what a wait uses
 wait_deadline : (k : Command) → IsWait k → (uses k).deadline ≡ true
@@ -79,13 +76,13 @@ module _ (k : Command) (c : Call) (w : World) (i : IsWait k) where
   no_operation : (is_wake_op k && undefined_op c.val3) ≡ false
   no_operation = by_cases i (λ e. rw e) (λ e. rw e)
 
-passed_sleeps : (c : Call) (o : Owning) (w : World) → IsWait (command_of c.op) → Passed (command_of c.op) c o w → Sleeps c o w
-passed_sleeps c o w i g =
+passed_sleeps : (c : Call) (w : World) → IsWait (command_of c.op) → Passed (command_of c.op) c w → Sleeps c w
+passed_sleeps c w i g =
     let k = command_of c.op in
     record {
       is_wait = i;
       memory = g.memory;
-      tables = sound_tables w.state g.sound g.owned;
+      tables = sound_tables w.state g.sound;
       process = g.process;
       index = g.index;
       runs = g.runs;
@@ -94,18 +91,15 @@ passed_sleeps c o w i g =
       alignment = eqb-true (c.uaddr % word_bytes) 0 (uaddr_aligned k c g.arguments);
       inside = leb-false bytes_per_process c.uaddr (uaddr_inside k c g.addresses);
       equal = equal_of k c w i g.equal;
-      named = not-false _ g.named;
-      apart = g.apart;
       ahead = ahead_of k c w i g.ahead;
     }
 
-sleeps_passed : (c : Call) (o : Owning) (w : World) → Sleeps c o w → Passed (command_of c.op) c o w
-sleeps_passed c o w s =
+sleeps_passed : (c : Call) (w : World) → Sleeps c w → Passed (command_of c.op) c w
+sleeps_passed c w s =
     let k = command_of c.op in
     record {
       memory = s.memory;
       sound = tables_sound w.state s.tables;
-      owned = tables_owned present w.state s.tables;
       process = s.process;
       index = s.index;
       runs = s.runs;
@@ -115,33 +109,31 @@ sleeps_passed c o w s =
       addresses = addresses_of k c w s.is_wait s.inside;
       defined = no_operation k c w s.is_wait;
       equal = of_equal k c w s.is_wait s.equal;
-      named = ap not s.named;
-      apart = s.apart;
       ahead = of_ahead k c w s.is_wait s.ahead;
     }
 
-module _ {e : Event} {c : Call} {o : Owning} (is : Asks e c o) (w : World) where
-  -- a call that no row refuses does what its command does
-  call_done : Passed (command_of c.op) c o w → step e w ≡ call_effect (command_of c.op) c o w
-  call_done g = step_clear e w (rw (asks_rows is w) (passed_clear c o w g)) ∙ asks_effect is w
+-- a call that no row refuses does what its command does
+call_done : (c : Call) (w : World) → Passed (command_of c.op) c w → step (CallEvent c) w ≡ call_effect (command_of c.op) c w
+unfolding effect refusals
+call_done c w g = step_clear (CallEvent c) w (passed_clear c w g)
 
-  pub asleep_sleeps : (step e w).answer ≡ Asleep → Sleeps c o w
-  asleep_sleeps h = verdicts e w
-      (λ x r. never (cc (step_refused e w x r)))
-      (λ r.
-      let g = clear_passed c o w (rw (asks_rows is w) at r) in
-      passed_sleeps c o w (wait_answer (command_of c.op) c o w (ap (λ o. o.answer) (sym (call_done g)) ∙ h)) g)
+pub asleep_sleeps : (c : Call) (w : World) → (step (CallEvent c) w).answer ≡ Asleep → Sleeps c w
+unfolding refusals
+asleep_sleeps c w h = verdicts (CallEvent c) w
+    (λ x r. never (cc (step_refused (CallEvent c) w x r)))
+    (λ r.
+    let g = clear_passed c w r in
+    passed_sleeps c w (wait_answer (command_of c.op) c w (ap (λ o. o.answer) (sym (call_done c w g)) ∙ h)) g)
 
-  wait_done : Sleeps c o w → step e w ≡ wait (command_of c.op) c o w
-  wait_done s = call_done (sleeps_passed c o w s) ∙ wait_is (command_of c.op) c o w s.is_wait
+wait_done : (c : Call) (w : World) → Sleeps c w → step (CallEvent c) w ≡ wait (command_of c.op) c w
+wait_done c w s = call_done c w (sleeps_passed c w s) ∙ wait_is (command_of c.op) c w s.is_wait
 
-  pub sleeps_asleep : Sleeps c o w → (step e w).answer ≡ Asleep
-  unfolding wait
-  sleeps_asleep s = ap (λ o. o.answer) (wait_done s)
+pub sleeps_asleep : (c : Call) (w : World) → Sleeps c w → (step (CallEvent c) w).answer ≡ Asleep
+unfolding wait
+sleeps_asleep c w s = ap (λ o. o.answer) (wait_done c w s)
 
-  -- what a wait that sleeps leaves
-  pub asleep_leaves : (step e w).answer ≡ Asleep
-      → (step e w).world
-      ≡ with_state (set_owner c.process c.uaddr (owner_given o (owner_of c.process c.uaddr w.state)) (fall_asleep (sleeps_by c w) (caller c) w.state)) w
-  unfolding wait
-  asleep_leaves h = ap (λ o. o.world) (wait_done (asleep_sleeps h))
+-- what a wait that sleeps leaves
+pub asleep_leaves : (c : Call) (w : World) → (step (CallEvent c) w).answer ≡ Asleep
+    → (step (CallEvent c) w).world ≡ with_state (fall_asleep (sleeps_by c w) (caller c) w.state) w
+unfolding wait
+asleep_leaves c w h = ap (λ o. o.world) (wait_done c w (asleep_sleeps c w h))

@@ -14,36 +14,32 @@ use Rattle.lists.proofs.Tests.{and_intro, and_left, and_right, eqb_refl}
 use Rattle.lists.proofs.Occurs.{elem_all}
 use Rattle.tables.specs.declared.Thread.{Thread}
 use Rattle.rules.specs.declared.event.Call.{Call}
-use Rattle.rules.specs.declared.event.Owning.{Owning}
 use Rattle.rules.specs.declared.event.Event.{Event}
+use Rattle.rules.specs.declared.event.Event.TheVariants.{Call as CallEvent}
 use Rattle.rules.specs.declared.answer.Answer.TheVariants.{Asleep, Count}
 use Rattle.tables.specs.Editions.{present}
-use Rattle.tables.specs.Tables.{World, process_of, word_at, fresh_thread, thread_of, sleeps_at, sleep_in, fall_asleep}
+use Rattle.tables.specs.Tables.{World, process_of, word_at, fresh_thread, thread_of, sleeps_at, sleep_in}
 use Rattle.rules.specs.Commands.{command_of}
 use Rattle.rules.specs.Calls.{caller, matches, moved}
 use Rattle.rules.specs.Events.{step}
 use Rattle.rules.specs.History.{final}
-use Rattle.rules.specs.Claims.{Asks, Sleeps, sleeps_by, but_owner, asleep_there, Enters, by_wait, by_requeue, slept_through, Since}
+use Rattle.rules.specs.Claims.{Sleeps, sleeps_by, asleep_there, Enters, by_wait, by_requeue, slept_through, Since}
 use Rattle.tables.proofs.Changes.{change_named}
 use Rattle.tables.proofs.Sound.{tables_sound}
 use Rattle.rules.proofs.Passed.{caller_below}
 use Rattle.rules.proofs.Chosen.{moved_pass, at_first}
 use Rattle.rules.proofs.Sleeps.{sleeps_asleep, asleep_leaves}
-use Rattle.rules.proofs.Took.{set_but_owner}
 use Rattle.rules.proofs.Taken.{takes_first}
 use Rattle.rules.proofs.Histories.{final_append}
 
 -- the record of who called a wait that sleeps
-pub sleeper : {e : Event} {c : Call} {o : Owning} → Asks e c o → (w : World) → Sleeps c o w
-    → but_owner (thread_of (step e w).world.state (caller c)) ≡ but_owner (sleeps_by c w (thread_of w.state (caller c)))
+pub sleeper : (c : Call) (w : World) → Sleeps c w → thread_of (step (CallEvent c) w).world.state (caller c) ≡ sleeps_by c w (thread_of w.state (caller c))
 unfolding sleep_in
-sleeper {c = c} is w s =
+sleeper c w s =
     let low = caller_below c s.process s.index in
     let size = (tables_sound w.state s.tables).records in
-    let u = fall_asleep (sleeps_by c w) (caller c) w.state in
-    let new : thread_of u (caller c) ≡ sleeps_by c w (thread_of w.state (caller c)) =
-    change_named (sleeps_by c w) (caller c ∷ []) w.state.threads (caller c) fresh_thread (rw (eqb_refl (caller c))) (omega arith) in
-    ap (λ v. but_owner (thread_of v.state (caller c))) (asleep_leaves is w (sleeps_asleep is w s)) ∙ set_but_owner c.process c.uaddr _ u (caller c) ∙ ap but_owner new
+    ap (λ v. thread_of v.state (caller c)) (asleep_leaves c w (sleeps_asleep c w s))
+    ∙ change_named (sleeps_by c w) (caller c ∷ []) w.state.threads (caller c) fresh_thread (rw (eqb_refl (caller c))) (omega arith)
 
 module _ (t a : ℕ) where
   -- who is moved sleeps at the first word
@@ -56,21 +52,21 @@ module _ (t a : ℕ) where
       (and_right (matches k c r) (sleeps_at c.process c.uaddr w.state t) at)
 
   pub entered_asleep : (e : Event) (w : World) → Enters t a e w → asleep_there t a (step e w).world ≡ true
-  entered_asleep e w (by_wait {c} is it at s) =
-      rw it (ap (λ (r : Thread). r.waiting && eqb r.uaddr a) (sleeper is w s) ∙ eq-eqb c.uaddr a at)
-  entered_asleep e w (by_requeue {c} n is count m own at on) =
-      let went = (takes_first is w n count).took.went t (rw m on) in
+  entered_asleep e w (by_wait c is it at s) =
+      rw (is, it) (ap (λ (r : Thread). r.waiting && eqb r.uaddr a) (sleeper c w s) ∙ eq-eqb c.uaddr a at)
+  entered_asleep e w (by_requeue c n is count m own at on) =
+      let went = (takes_first c w n (ap (λ x. (step x w).answer) (sym is) ∙ count)).took.went t (rw m on) in
       let r = thread_of w.state t in
       let on = and_left r.waiting (eqb r.uaddr c.uaddr) (mover c w on) in
-      (ap (λ (r : Thread). r.waiting && eqb r.uaddr a) went ∙ and_intro on (eq-eqb c.uaddr2 a at))
+      rw is (ap (λ (r : Thread). r.waiting && eqb r.uaddr a) went ∙ and_intro on (eq-eqb c.uaddr2 a at))
 
   -- a wait of its own that saw its number there, or a requeue of its process that was answered a count
   pub entered_by : (e : Event) (w : World) → Enters t a e w
-      → ((c : Call) × (o : Owning) × Asks e c o × (t ≡ caller c) × (c.uaddr ≡ a) × ((step e w).answer ≡ Asleep) × (word_at w c.process a ≡ c.val))
-      ⊎ ((c : Call) × (o : Owning) × (n : ℕ) × Asks e c o × ((step e w).answer ≡ Count n) × (c.process ≡ process_of t) × (c.uaddr2 ≡ a) × (asleep_there t c.uaddr w ≡ true))
-  entered_by e w (by_wait {c} {o} is it at s) =
-      inl (c, o, is, it, at, sleeps_asleep is w s, ap (word_at w c.process) (sym at) ∙ s.equal)
-  entered_by e w (by_requeue {c} {o} n is count m own at on) = inr (c, o, n, is, count, own, at, mover c w on)
+      → ((c : Call) × (e ≡ CallEvent c) × (t ≡ caller c) × (c.uaddr ≡ a) × ((step e w).answer ≡ Asleep) × (word_at w c.process a ≡ c.val))
+      ⊎ ((c : Call) × (n : ℕ) × (e ≡ CallEvent c) × ((step e w).answer ≡ Count n) × (c.process ≡ process_of t) × (c.uaddr2 ≡ a) × (asleep_there t c.uaddr w ≡ true))
+  entered_by e w (by_wait c is it at s) =
+      inl (c, is, it, at, ap (λ x. (step x w).answer) is ∙ sleeps_asleep c w s, ap (word_at w c.process) (sym at) ∙ s.equal)
+  entered_by e w (by_requeue c n is count m own at on) = inr (c, n, is, count, own, at, mover c w on)
 
   pub slept_at : (h : List Event) (w : World) → slept_through t a h w ≡ true → (n : ℕ) → asleep_there t a (final (take n h) w) ≡ true
   slept_at [] w s zero = s

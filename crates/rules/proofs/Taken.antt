@@ -18,26 +18,23 @@ use Rattle.tables.specs.declared.LastAnswer.TheVariants.{Woken, TimedOut, Interr
 use Rattle.rules.specs.declared.event.Command.{Command}
 use Rattle.rules.specs.declared.event.Command.TheVariants.{Wait, Wake, Requeue, CmpRequeue, WakeOp, WaitBitset, WakeBitset, Unknown}
 use Rattle.rules.specs.declared.event.Call.{Call}
-use Rattle.rules.specs.declared.event.Owning.{Owning}
 use Rattle.rules.specs.declared.event.Event.{Event}
-use Rattle.rules.specs.declared.event.Event.TheVariants.{Call as CallEvent, Store, Clock, Interrupt, Query, SetPriority, OwnerWait, OwnerWake, OwnerRequeue, OwnerQuery}
+use Rattle.rules.specs.declared.event.Event.TheVariants.{Call as CallEvent, Store, Clock, Interrupt, Query, SetPriority}
 use Rattle.rules.specs.declared.answer.Answer.TheVariants.{Count}
-use Rattle.tables.specs.Sizes.{threads, no_owner}
+use Rattle.tables.specs.Sizes.{threads}
 use Rattle.tables.specs.Editions.{present}
-use Rattle.tables.specs.Tables.{expired, expired_sleepers, World, thread_number, thread_of, arrivals, fresh_thread, with_priority, end_in, end_sleeps, move_in, move_sleeps, set_priority, set_owner_in, write_word, with_clock}
+use Rattle.tables.specs.Tables.{expired, expired_sleepers, World, thread_number, thread_of, arrivals, fresh_thread, with_priority, end_in, end_sleeps, move_in, move_sleeps, set_priority, write_word, with_clock}
 use Rattle.rules.specs.Answers.{Outcome}
 use Rattle.rules.specs.Commands.{command_of, uses}
-use Rattle.rules.specs.WakeOp.{compares}
-use Rattle.rules.specs.Calls.{matches, old_word, released, moved, released_second, wait, wake, requeue, wake_op, call_effect}
+use Rattle.rules.specs.Calls.{matches, released, moved, released_second, wait, wake, requeue, wake_op, call_effect}
 use Rattle.rules.specs.Events.{refusals, effect, step, clock_effect, interrupt_effect}
-use Rattle.rules.specs.Claims.{Clear, Took, Takes, woke, shifted, woken_count, shifted_count, counts_moves, Asks, as_call, as_owner_wait, as_owner_wake, as_owner_requeue}
-use Rattle.rules.proofs.Rows.{asks_rows, asks_effect, counted_clear, counted_done}
-use Rattle.rules.proofs.ByEvent.{asks_of}
+use Rattle.rules.specs.Claims.{Clear, Took, Takes, woke, shifted, woken_count, shifted_count, counts_moves}
+use Rattle.rules.proofs.Rows.{counted_clear, counted_done}
 use Rattle.tables.proofs.Changes.{change_kept}
 use Rattle.tables.proofs.Sound.{Sound, once, listed_waiting, part_below}
 use Rattle.rules.proofs.Passed.{Passed, clear_passed, sound_of, addresses_apart}
 use Rattle.rules.proofs.Chosen.{candidate_at, moved_pass, at_first, parts_listed, second_listed}
-use Rattle.rules.proofs.Took.{took_none, took_end, took_move, took_clock, took_set, count_woke, count_shifted}
+use Rattle.rules.proofs.Took.{took_none, took_end, took_move, took_clock, count_woke, count_shifted}
 
 module _ (k : Command) (c : Call) (w : World) (g : Sound w.state) where
   released_listed : (t : ℕ) → occurs t (released k c w.state) ≤ occurs t (arrivals w.state)
@@ -77,37 +74,17 @@ alone : (k : Command) (c : Call) (w : World) (on : List ℕ) (u : State) → Too
     → Took Woken (released k c w.state ++ []) on c.uaddr2 w.state u
 alone k c w on u took = rw (append-nil (released k c w.state)) took
 
--- what each command leaves, the owners set
-module _ (k : Command) (c : Call) (o : Owning) (w : World) (g : Sound w.state) where
-  wake_took : Took Woken (released k c w.state) [] c.uaddr2 w.state (wake k c o w).world.state
-  unfolding wake
-  wake_took = took_set c.process c.uaddr _ (took_released k c w g)
-
-  requeue_took : Took Woken (released k c w.state) (moved k c w.state) c.uaddr2 w.state (requeue k c o w).world.state
-  unfolding requeue
-  requeue_took = took_set c.process c.uaddr2 _ (took_set c.process c.uaddr _ (took_requeue k c w g))
-
-  both_took : Took Woken (released k c w.state ++ released_second k c w) [] c.uaddr2 w.state (wake_op k c w).world.state
-  unfolding wake_op write_word
-  both_took =
-      let took = took_set c.process c.uaddr no_owner (took_both k c w g) in
-      cases (compares c.val3 (old_word c w)) (λ e. rw e (took_set c.process c.uaddr2 no_owner took)) (λ e. rw e took)
-
-  both_clock : (wake_op k c w).world.state.clock ≡ w.state.clock
-  unfolding wake_op write_word set_owner_in end_in
-  both_clock = cases (compares c.val3 (old_word c w)) (λ e. rw e) (λ e. rw e)
-
-effect_takes : (k : Command) (c : Call) (o : Owning) (w : World) (n : ℕ) → Sound w.state → (call_effect k c o w).answer ≡ Count n
-    → Takes k c w (call_effect k c o w).world
-unfolding call_effect wait wake requeue wake_op end_in move_in set_owner_in write_word
-effect_takes Wait c o w n g h = never (cc)
-effect_takes WaitBitset c o w n g h = never (cc)
-effect_takes Wake c o w n g h = record { took = alone Wake c w _ _ (wake_took Wake c o w g); clock = refl; words = refl }
-effect_takes WakeBitset c o w n g h = record { took = alone WakeBitset c w _ _ (wake_took WakeBitset c o w g); clock = refl; words = refl }
-effect_takes Requeue c o w n g h = record { took = alone Requeue c w _ _ (requeue_took Requeue c o w g); clock = refl; words = refl }
-effect_takes CmpRequeue c o w n g h = record { took = alone CmpRequeue c w _ _ (requeue_took CmpRequeue c o w g); clock = refl; words = refl }
-effect_takes WakeOp c o w n g h = record { took = both_took WakeOp c o w g; clock = both_clock WakeOp c o w g; words = refl }
-effect_takes Unknown c o w n g h = never (cc)
+effect_takes : (k : Command) (c : Call) (w : World) (n : ℕ) → Sound w.state → (call_effect k c w).answer ≡ Count n
+    → Takes k c w (call_effect k c w).world
+unfolding call_effect wait wake requeue wake_op end_in move_in write_word
+effect_takes Wait c w n g h = never (cc)
+effect_takes WaitBitset c w n g h = never (cc)
+effect_takes Wake c w n g h = record { took = alone Wake c w _ _ (took_released Wake c w g); clock = refl; words = refl }
+effect_takes WakeBitset c w n g h = record { took = alone WakeBitset c w _ _ (took_released WakeBitset c w g); clock = refl; words = refl }
+effect_takes Requeue c w n g h = record { took = alone Requeue c w _ _ (took_requeue Requeue c w g); clock = refl; words = refl }
+effect_takes CmpRequeue c w n g h = record { took = alone CmpRequeue c w _ _ (took_requeue CmpRequeue c w g); clock = refl; words = refl }
+effect_takes WakeOp c w n g h = record { took = took_both WakeOp c w g; clock = refl; words = refl }
+effect_takes Unknown c w n g h = never (cc)
 
 -- the clock's and an interrupt's sleepers
 expired_listed : (now : ℕ) (s : State) (t : ℕ) → occurs t (expired_sleepers now s) ≤ occurs t (arrivals s)
@@ -129,12 +106,13 @@ pub took_interrupted : (t : ℕ) (s : State) → Sound s → (thread_of s t).wai
 took_interrupted t s g e = took_end Interrupted (t ∷ []) s g.records (part_below s g (t ∷ []) (one_listed t s g e)) 0
 
 -- A wake or requeue takes these, and leaves every other record and the order of every other entry as they were.
-pub takes_first : {e : Event} {c : Call} {o : Owning} → Asks e c o → (w : World) (n : ℕ) → (step e w).answer ≡ Count n
-    → Takes (command_of c.op) c w (step e w).world
-takes_first {e} {c} {o} is w n h =
-    let done = counted_done e w n h ∙ asks_effect is w in
-    let g = clear_passed c o w (rw (asks_rows is w) at (counted_clear e w n h)) in
-    rw done (effect_takes (command_of c.op) c o w n g.sound (ap (λ (o : Outcome). o.answer) (sym done) ∙ h))
+pub takes_first : (c : Call) (w : World) (n : ℕ) → (step (CallEvent c) w).answer ≡ Count n
+    → Takes (command_of c.op) c w (step (CallEvent c) w).world
+unfolding refusals effect
+takes_first c w n h =
+    let done = counted_done (CallEvent c) w n h in
+    let g = clear_passed c w (counted_clear (CallEvent c) w n h) in
+    rw done (effect_takes (command_of c.op) c w n g.sound (ap (λ (o : Outcome). o.answer) (sym done) ∙ h))
 
 -- The clock ends every sleep whose deadline it reaches, an interrupt that of the thread it names, and neither ends another.
 pub clock_ends : (now : ℕ) (w : World) (n : ℕ) → (step (Clock now) w).answer ≡ Count n
@@ -185,31 +163,24 @@ module _ (k : Command) (c : Call) (w : World) (g : Sound w.state) where
       sym (length-append (released k c w.state) (released_second k c w))
       ∙ ends_counted Woken (released k c w.state ++ released_second k c w) c.uaddr2 w.state v g took (both_listed k c w g)
 
-call_counted : (k : Command) (c : Call) (o : Owning) (w : World) (n : ℕ) → Passed k c o w → (call_effect k c o w).answer ≡ Count n
-    → n ≡ woken_count w (call_effect k c o w).world + cond ((uses k).moves && (uses k).compare) (shifted_count w (call_effect k c o w).world) 0
-unfolding call_effect wait wake requeue wake_op
-call_counted Wait c o w n g h = never (cc)
-call_counted WaitBitset c o w n g h = never (cc)
-call_counted Wake c o w n g h = let m : n ≡ length (released Wake c w.state) = cc in
-    omega (arith, ends_counted Woken _ _ w.state _ g.sound (wake_took Wake c o w g.sound) (released_listed Wake c w g.sound))
-call_counted WakeBitset c o w n g h = let m : n ≡ length (released WakeBitset c w.state) = cc in
-    omega (arith, ends_counted Woken _ _ w.state _ g.sound (wake_took WakeBitset c o w g.sound) (released_listed WakeBitset c w g.sound))
-call_counted Requeue c o w n g h = let m : n ≡ length (released Requeue c w.state) + 0 = cc in
-    omega (arith, released_counted Requeue c w g.sound _ (requeue_took Requeue c o w g.sound) (addresses_apart Requeue c g.arguments refl))
-call_counted CmpRequeue c o w n g h = let m : n ≡ length (released CmpRequeue c w.state) + length (moved CmpRequeue c w.state) = cc in
+call_counted : (k : Command) (c : Call) (w : World) (n : ℕ) → Passed k c w → (call_effect k c w).answer ≡ Count n
+    → n ≡ woken_count w (call_effect k c w).world + cond ((uses k).moves && (uses k).compare) (shifted_count w (call_effect k c w).world) 0
+unfolding call_effect wait wake requeue wake_op write_word
+call_counted Wait c w n g h = never (cc)
+call_counted WaitBitset c w n g h = never (cc)
+call_counted Wake c w n g h = let m : n ≡ length (released Wake c w.state) = cc in
+    omega (arith, ends_counted Woken _ _ w.state _ g.sound (took_released Wake c w g.sound) (released_listed Wake c w g.sound))
+call_counted WakeBitset c w n g h = let m : n ≡ length (released WakeBitset c w.state) = cc in
+    omega (arith, ends_counted Woken _ _ w.state _ g.sound (took_released WakeBitset c w g.sound) (released_listed WakeBitset c w g.sound))
+call_counted Requeue c w n g h = let m : n ≡ length (released Requeue c w.state) + 0 = cc in
+    omega (arith, released_counted Requeue c w g.sound _ (took_requeue Requeue c w g.sound) (addresses_apart Requeue c g.arguments refl))
+call_counted CmpRequeue c w n g h = let m : n ≡ length (released CmpRequeue c w.state) + length (moved CmpRequeue c w.state) = cc in
     let apart = addresses_apart CmpRequeue c g.arguments refl in
-    let took = requeue_took CmpRequeue c o w g.sound in
+    let took = took_requeue CmpRequeue c w g.sound in
     omega (arith, released_counted CmpRequeue c w g.sound _ took apart, moved_counted CmpRequeue c w g.sound _ took apart)
-call_counted WakeOp c o w n g h = let m : n ≡ length (released WakeOp c w.state) + length (released_second WakeOp c w) = cc in
-    omega (arith, both_counted WakeOp c w g.sound _ (both_took WakeOp c o w g.sound))
-call_counted Unknown c o w n g h = never (cc)
-
--- the same of the event that asks it
-asked_counted : {e : Event} {c : Call} {o : Owning} → Asks e c o → (w : World) (n : ℕ) → Clear (refusals e w) → (effect e w).answer ≡ Count n
-    → n ≡ woken_count w (effect e w).world + cond (counts_moves e) (shifted_count w (effect e w).world) 0
-asked_counted {e} {c} {o} is w n r h =
-    rw (asks_effect is w, asks_of (λ c o. (uses (command_of c.op)).moves && (uses (command_of c.op)).compare) false is)
-    (call_counted (command_of c.op) c o w n (clear_passed c o w (rw (asks_rows is w) at r)) (ap (λ (x : Outcome). x.answer) (sym (asks_effect is w)) ∙ h))
+call_counted WakeOp c w n g h = let m : n ≡ length (released WakeOp c w.state) + length (released_second WakeOp c w) = cc in
+    omega (arith, both_counted WakeOp c w g.sound _ (took_both WakeOp c w g.sound))
+call_counted Unknown c w n g h = never (cc)
 
 nothing_woken : (w : World) → Sound w.state → 0 ≡ woken_count w w
 nothing_woken w g = ends_counted Woken [] 0 w.state w.state g (took_none Woken 0 w.state) (λ t. omega arith)
@@ -222,11 +193,7 @@ still_waiting n t s u = change_kept (λ (r : Thread). r.waiting) (with_priority 
 effect_counted : (e : Event) (w : World) (n : ℕ) → Clear (refusals e w) → (effect e w).answer ≡ Count n
     → n ≡ woken_count w (effect e w).world + cond (counts_moves e) (shifted_count w (effect e w).world) 0
 unfolding effect refusals clock_effect interrupt_effect write_word
-effect_counted (CallEvent c) w n r h = asked_counted (as_call c) w n r h
-effect_counted (OwnerWait x) w n r h = asked_counted (as_owner_wait x) w n r h
-effect_counted (OwnerWake p i a) w n r h = asked_counted (as_owner_wake p i a) w n r h
-effect_counted (OwnerRequeue x) w n r h = asked_counted (as_owner_requeue x) w n r h
-effect_counted (OwnerQuery p i a) w n r h = never (cc)
+effect_counted (CallEvent c) w n r h = call_counted (command_of c.op) c w n (clear_passed c w r) h
 effect_counted (Store p a v) w n r h = let m : n ≡ 0 = cc in omega (arith, nothing_woken w (sound_of w r.1.0))
 effect_counted (Clock now) w n r h =
     let g = sound_of w r.1.0 in

@@ -1,10 +1,10 @@
 -- What is proved of the rules, demand by demand. Each theorem is stated here whole and cites its proof; specs/Claims.antt has the
 -- words that the statements use, specs/Cases.antt the cases; Pinned.antt has the laws that fix these words.
 use mathlib.Core.Path.{◌≡◌, refl, sym, ap, ◌∙◌}
-use mathlib.Core.Bool.{true, false, not, cond, ◌&&◌, ◌||◌}
+use mathlib.Core.Bool.{true, false, cond, ◌&&◌}
 use mathlib.Core.List.{List, [], ◌∷◌, ◌++◌, map}
 use mathlib.Core.Logic.{◌⊎◌, inl, inr, ◌↔◌}
-use Prim.Native.Nat.{ℕ, ◌+◌, ◌-◌, ◌%◌, ◌^◌, ◌≤◌, ◌<◌, min}
+use Prim.Native.Nat.{ℕ, ◌+◌, ◌-◌, ◌^◌, ◌≤◌, ◌<◌, min}
 use native.Mathlib.Omega.{arith}
 use lib.IntN.{ℤ, pos, neg_ℤ, ◌+ℤ◌}
 use lib.Signed.{lt_z}
@@ -17,34 +17,31 @@ use Rattle.tables.specs.declared.LastAnswer.TheVariants.{Woken, TimedOut, Interr
 use Rattle.rules.specs.declared.event.Command.{Command}
 use Rattle.rules.specs.declared.event.Command.TheVariants.{Wake}
 use Rattle.rules.specs.declared.event.Call.{Call}
-use Rattle.rules.specs.declared.event.Owning.{Owning}
 use Rattle.rules.specs.declared.event.Event.{Event}
-use Rattle.rules.specs.declared.event.Event.TheVariants.{Call as CallEvent, Clock, Interrupt, SetPriority, OwnerQuery}
+use Rattle.rules.specs.declared.event.Event.TheVariants.{Call as CallEvent, Clock, Interrupt, SetPriority}
 use Rattle.rules.specs.declared.answer.Reason.{Reason}
 use Rattle.rules.specs.declared.answer.Reason.TheVariants.{NoReason}
 use Rattle.rules.specs.declared.answer.Refusal.{Refusal}
-use Rattle.rules.specs.declared.answer.Answer.TheVariants.{Asleep, Count, Refused, Owner}
-use Rattle.tables.specs.Sizes.{processes, threads_per_process, threads, word_bytes, bytes_per_process, memory_words, max_priority, no_owner, word_bits, word_limit}
-use Rattle.tables.specs.Editions.{by_priority, present}
-use Rattle.tables.specs.Tables.{World, thread_number, process_of, index_of, word_at, ended, thread_of, sleeps_at, queue, expired, expired_sleepers, owner_of, waits_for, tables_ok, with_state, fall_asleep, set_priority, set_owner}
-use Rattle.rules.specs.Answers.{asleep_number, reason_number, answer_numbers, reason_of, outcome, is_refused}
-use Rattle.rules.specs.Commands.{command_of, uses}
+use Rattle.rules.specs.declared.answer.Answer.TheVariants.{Asleep, Count, Refused}
+use Rattle.tables.specs.Sizes.{processes, threads_per_process, threads, bytes_per_process, memory_words, max_priority, word_bits, word_limit}
+use Rattle.tables.specs.Editions.{by_priority}
+use Rattle.tables.specs.Tables.{World, thread_number, process_of, word_at, ended, thread_of, sleeps_at, queue, expired, expired_sleepers, tables_ok, with_state, fall_asleep, set_priority}
+use Rattle.rules.specs.Answers.{asleep_number, reason_number, answer_numbers, reason_of, outcome}
+use Rattle.rules.specs.Commands.{command_of}
 use Rattle.rules.specs.Signed.{signed, Within, modulo, eq_z}
 use Rattle.rules.specs.WakeOp.{code_bits, arg_bits, op_field, cmp_field, op_arg_field, cmp_arg_field, op_arg, cmp_arg, shift_bit, operand, new_word, compare_by, compares, val3_of}
-use Rattle.rules.specs.Calls.{caller, second_cap, ordered, matches, candidates_in, released_in, released, moved_in, moved, released_second, owner_given, would_own}
+use Rattle.rules.specs.Calls.{caller, second_cap, ordered, matches, candidates_in, released_in, released, moved_in, moved, released_second}
 use Rattle.rules.specs.Events.{refusals, effect, step}
 use Rattle.rules.specs.Numbers.{numbers_of}
 use Rattle.rules.specs.Before.{step_without_reasons, without_reason, step_unsigned, none_negative, numbers_with12, as_with12, step_with12, step_by_arrival, Level}
 use Rattle.rules.specs.History.{start, final, answers, kept_for, answers_to}
-use Rattle.rules.specs.Claims.{FirstOf, Clear, Asks, Fault, IsWait, Sleeps, sleeps_by, GoesBefore, Took, Takes, woken_count, shifted_count, counts_moves, NamedAlike, before, after, PrioritySet, Fate, priority_after, owner_by, is_empty, names_word, BecomesOwner, asleep_there, slept_through, Since, Alike}
+use Rattle.rules.specs.Claims.{FirstOf, Clear, Fault, Sleeps, sleeps_by, GoesBefore, Took, Takes, woken_count, shifted_count, counts_moves, NamedAlike, before, after, PrioritySet, Fate, priority_after, asleep_there, slept_through, Since, Alike}
 use Rattle.rules.proofs.Rows.{first_of, of_first, verdicts, step_refused, step_clear}
 use Rattle.rules.specs.Cases.{twelve, further, given, reasoned, reasoned_as, shares, share_of, unsounds, unsound_given}
 use Rattle.rules.specs.WakeOpCases.{comparisons, compared_as, operations, stored_as, calls, called_as}
 use Rattle.rules.specs.PriorityCases.{prioritised, prioritised_as, choices, chosen_as}
-use Rattle.rules.specs.OwnerCases.{owned, own_words, owned_as, ruled_tables, ruled_as}
 use Rattle.rules.proofs.Cases as Cases
-use Rattle.tables.proofs.Sound.{tables_sound, room, none_overdue}
-use Rattle.tables.proofs.Owners.{tables_owned, sound_tables}
+use Rattle.tables.proofs.Sound.{tables_sound, sound_tables, room, none_overdue}
 use Rattle.rules.proofs.Refused.{refused_row}
 use Rattle.rules.proofs.Numbers.{by_number}
 use Rattle.rules.proofs.Preserved.{step_valid, final_valid, start_valid}
@@ -61,8 +58,6 @@ use Rattle.rules.proofs.Local as Local
 use Rattle.rules.proofs.Fate as Fate'
 use Rattle.rules.proofs.LostWake as LostWake
 use Rattle.rules.proofs.Priorities as Priorities
-use Rattle.rules.proofs.OwnersAfter as OwnersAfter
-use Rattle.rules.proofs.OwnWord as OwnWord'
 use Rattle.rules.proofs.Isolation.{answers_view, final_view, start_alike, alike}
 
 -- Demand 1, for every event, any tables and words of any length.
@@ -174,19 +169,16 @@ as_before_12 = Before.as_before_12
 -- Demand 2, waits.
 
 -- "A wait sleeps exactly when no check refuses it, the word equals the expected number and its deadline, if any, is still ahead."
--- Request (viii): so does an owner wait, if the owner that it names is an index or none; and neither sleeps if a thread would then be "both owner of
--- a word and asleep there".
-pub asleep_exactly : {e : Event} {c : Call} {o : Owning} → Asks e c o → (w : World) → ((step e w).answer ≡ Asleep) ↔ Sleeps c o w
-asleep_exactly is w = (Sleeps'.asleep_sleeps is w, Sleeps'.sleeps_asleep is w)
+pub asleep_exactly : (c : Call) (w : World) → ((step (CallEvent c) w).answer ≡ Asleep) ↔ Sleeps c w
+asleep_exactly c w = (Sleeps'.asleep_sleeps c w, Sleeps'.sleeps_asleep c w)
 
 -- "Can a wait ever trust a stale word?" A wait that sleeps saw, in the memory that it was lent, the number that it expects.
-pub sleeper_saw : {e : Event} {c : Call} {o : Owning} → Asks e c o → (w : World) → (step e w).answer ≡ Asleep → word_at w c.process c.uaddr ≡ c.val
-sleeper_saw is w h = ((asleep_exactly is w).0 h).equal
+pub sleeper_saw : (c : Call) (w : World) → (step (CallEvent c) w).answer ≡ Asleep → word_at w c.process c.uaddr ≡ c.val
+sleeper_saw c w h = ((asleep_exactly c w).0 h).equal
 
--- It leaves the caller, with its record, at the end of the arrival list, and the word's owner, and nothing else changed.
-pub asleep_leaves : {e : Event} {c : Call} {o : Owning} → Asks e c o → (w : World) → (step e w).answer ≡ Asleep
-    → (step e w).world
-    ≡ with_state (set_owner c.process c.uaddr (owner_given o (owner_of c.process c.uaddr w.state)) (fall_asleep (sleeps_by c w) (caller c) w.state)) w
+-- It leaves the caller, with its record, at the end of the arrival list, and nothing else changed.
+pub asleep_leaves : (c : Call) (w : World) → (step (CallEvent c) w).answer ≡ Asleep
+    → (step (CallEvent c) w).world ≡ with_state (fall_asleep (sleeps_by c w) (caller c) w.state) w
 asleep_leaves = Sleeps'.asleep_leaves
 
 -- Demand 2, wakes and requeues.
@@ -245,10 +237,10 @@ pub stop_key_first : (k : Command) (c : Call) (s : State) → tables_ok s ≡ tr
 stop_key_first k c s h = Order.released_leads k c s (tables_sound s h)
 
 -- and so runs after any such call that is answered a count, whatever else sleeps.
-pub stop_key_runs : {e : Event} {c : Call} {o : Owning} → Asks e c o → (w : World) (n t : ℕ) → (step e w).answer ≡ Count n → 0 < c.val
+pub stop_key_runs : (c : Call) (w : World) (n t : ℕ) → (step (CallEvent c) w).answer ≡ Count n → 0 < c.val
     → (matches (command_of c.op) c (before w t) && sleeps_at c.process c.uaddr w.state t) ≡ true
     → ((u : ℕ) → (matches (command_of c.op) c (before w u) && sleeps_at c.process c.uaddr w.state u) ≡ true → (u ≡ t → ⊥) → (before w u).priority < (before w t).priority)
-    → after e w t ≡ ended Woken (before w t)
+    → after (CallEvent c) w t ≡ ended Woken (before w t)
 stop_key_runs = Order.leader_runs
 
 -- "in any tables whose priorities are all equal, each event's answer and all that it leaves stay as before, and that is to be proved": for every event,
@@ -262,10 +254,10 @@ pub how_many : (k : Command) (c : Call) (s : State) → tables_ok s ≡ true
     (length (released k c s) ≡ min c.val there) × (length (moved k c s) ≡ min (second_cap c) (there - c.val))
 how_many k c s h = (Order.released_many k c s (tables_sound s h), Order.moved_many k c s (tables_sound s h))
 
--- Those run, or move with mask and deadline kept, to the list's end "in the order in which they were taken"; every other record, but for the owner of
--- its word, and the order of every other entry are as they were.
-pub takes_first : {e : Event} {c : Call} {o : Owning} → Asks e c o → (w : World) (n : ℕ) → (step e w).answer ≡ Count n
-    → Takes (command_of c.op) c w (step e w).world
+-- Those run, or move with mask and deadline kept, to the list's end "in the order in which they were taken"; every other record and the order of every
+-- other entry are as they were.
+pub takes_first : (c : Call) (w : World) (n : ℕ) → (step (CallEvent c) w).answer ≡ Count n
+    → Takes (command_of c.op) c w (step (CallEvent c) w).world
 takes_first = Taken.takes_first
 
 -- The count "is the number of records that went from waiting to running, and, where moves count, of those still waiting whose
@@ -282,8 +274,8 @@ pub count_below_asleep : (e : Event) (w : World) (n : ℕ) → (step e w).answer
 count_below_asleep e w n h = omega (arith, count_most e w n h)
 
 -- "The count that a wake or requeue answers depends on no sleeper at a word that the call doesn't name."
-pub count_local : {e : Event} {c : Call} {o : Owning} → Asks e c o → (w v : World) (m n : ℕ) → NamedAlike (command_of c.op) c w v
-    → (step e w).answer ≡ Count m → (step e v).answer ≡ Count n → m ≡ n
+pub count_local : (c : Call) (w v : World) (m n : ℕ) → NamedAlike (command_of c.op) c w v
+    → (step (CallEvent c) w).answer ≡ Count m → (step (CallEvent c) v).answer ≡ Count n → m ≡ n
 count_local = Local.count_local
 
 -- Demand 2, the clock and interrupts.
@@ -315,9 +307,9 @@ pub fate : (e : Event) (w : World) (t : ℕ) → Fate e w t
 fate = Fate'.fate
 
 -- Once a word differs from v, no wait that expects v sleeps there until the word is v again.
-pub stale_never_sleeps : {e : Event} {c : Call} {o : Owning} → Asks e c o → (w : World) (v : ℕ) → c.val ≡ v → (word_at w c.process c.uaddr ≡ v → ⊥)
-    → (step e w).answer ≡ Asleep → ⊥
-stale_never_sleeps asks w v is differs h = differs (sleeper_saw asks w h ∙ is)
+pub stale_never_sleeps : (c : Call) (w : World) (v : ℕ) → c.val ≡ v → (word_at w c.process c.uaddr ≡ v → ⊥)
+    → (step (CallEvent c) w).answer ≡ Asleep → ⊥
+stale_never_sleeps c w v is differs h = differs (sleeper_saw c w h ∙ is)
 
 -- Over any history: a thread that is asleep at a word at its end slept there throughout, or entered by an event of the history, a
 -- wait that saw its number there or a requeue to it, and has slept there since.
@@ -327,16 +319,16 @@ asleep_since = LostWake.since
 
 -- A WAKE whose cap is not below the number of the word's sleepers leaves nobody asleep there. So after it a thread of the process
 -- is asleep at that word only by a later wait that saw its number there, or by a later requeue to it.
-pub no_lost_wake : {e : Event} {c : Call} {o : Owning} → Asks e c o → (w : World) (n : ℕ) → command_of c.op ≡ Wake → (step e w).answer ≡ Count n
+pub no_lost_wake : (c : Call) (w : World) (n : ℕ) → command_of c.op ≡ Wake → (step (CallEvent c) w).answer ≡ Count n
     → length (queue c.process c.uaddr w.state) ≤ c.val
     → (h : List Event) (t : ℕ) → process_of t ≡ c.process
-    → asleep_there t c.uaddr (final h (step e w).world) ≡ true
-    → Since t c.uaddr h (step e w).world
-no_lost_wake {e} {c} is w n wake answer enough h t own asleep =
-    by_cases (asleep_since t c.uaddr h (step e w).world asleep)
-    (λ slept. clash (asleep_there t c.uaddr (step e w).world)
-    (LostWake.starts_asleep t c.uaddr h (step e w).world slept)
-    (LostWake.wake_empties is w n wake answer enough t own))
+    → asleep_there t c.uaddr (final h (step (CallEvent c) w).world) ≡ true
+    → Since t c.uaddr h (step (CallEvent c) w).world
+no_lost_wake c w n wake answer enough h t own asleep =
+    by_cases (asleep_since t c.uaddr h (step (CallEvent c) w).world asleep)
+    (λ slept. clash (asleep_there t c.uaddr (step (CallEvent c) w).world)
+    (LostWake.starts_asleep t c.uaddr h (step (CallEvent c) w).world slept)
+    (LostWake.wake_empties c w n wake answer enough t own))
     (λ s. s)
 
 -- Request (vi), base priorities.
@@ -361,73 +353,6 @@ set_exactly = Priorities.set_exactly
 pub set_leaves : (p i n : ℕ) (w : World) → (step (SetPriority p i n) w).answer ≡ Count 0
     → (step (SetPriority p i n) w).world ≡ with_state (set_priority n (thread_number p i) w.state) w
 set_leaves = Priorities.set_leaves
-
--- Request (viii), owned locks.
-
--- "A wait or requeue that succeeds sets the target's owner as named, if threads then sleep there." "Plain wakes and requeues that succeed clear the first
--- word's owner, and WAKE_OP the second's too if its comparison is true; plain waits and requeue targets keep theirs." So the owner of every word after
--- every event that is not refused, whatever the tables and words: none if nobody sleeps there, else what the event makes of it (`ownerBy`).
--- "Failed operations leave owners unchanged": `refusal-leaves-all`.
-pub owner_after : (e : Event) (w : World) → is_refused (step e w).answer ≡ false → (p a : ℕ)
-    → owner_of p a (step e w).world.state ≡ cond (is_empty (queue p a (step e w).world.state)) no_owner (owner_by e w p a)
-owner_after = OwnersAfter.owner_after
-
--- Only a call that names the word changes its owner, as long as somebody sleeps there: whatever the owner itself does meanwhile, it stays owner.
-pub owner_stays : (e : Event) (w : World) (p a : ℕ) → names_word e p a ≡ false → is_empty (queue p a (step e w).world.state) ≡ false
-    → owner_of p a (step e w).world.state ≡ owner_of p a w.state
-owner_stays = OwnersAfter.owner_stays
-
--- Who is owner was it before, or became it by an event that is not refused: a wait at the word or a requeue to it that names it, or a single-owner wake
--- or requeue that released it there, and nobody else;
-pub becomes_owner : (e : Event) (w : World) (p a n : ℕ) → owner_of p a (step e w).world.state ≡ n → (n ≡ no_owner → ⊥)
-    → (owner_of p a w.state ≡ n) ⊎ ((is_refused (step e w).answer ≡ false) × BecomesOwner p a n e w)
-becomes_owner = OwnersAfter.becomes_owner
-
--- and whoever becomes owner so is it, "if others still sleep there".
-pub owner_made : (e : Event) (w : World) (p a n : ℕ) → BecomesOwner p a n e w → is_refused (step e w).answer ≡ false
-    → is_empty (queue p a (step e w).world.state) ≡ false → owner_of p a (step e w).world.state ≡ n
-owner_made = OwnersAfter.owner_made
-
--- "a word with no sleepers has none"
-pub no_owner_without_sleepers : (s : State) (p a : ℕ) → queue p a s ≡ [] → owner_of p a s ≡ no_owner
-no_owner_without_sleepers = OwnersAfter.no_owner_without_sleepers
-
--- Kind 9 "answers the index or 255": an owner query that is not refused tells the word's owner, and changes nothing.
-pub owner_told : (p i a : ℕ) (w : World) → is_refused (step (OwnerQuery p i a) w).answer ≡ false
-    → step (OwnerQuery p i a) w ≡ outcome (Owner (owner_of p a w.state)) w
-owner_told = OwnersAfter.owner_told
-
--- "no operation may leave a thread both owner of a word and asleep there": no event leaves one, from any tables that keep the rules over full-length
--- memory, and so no history from the fresh state.
-pub none_own_word : (e : Event) (w : World) → length w.words ≡ memory_words → tables_ok w.state ≡ true
-    → (t : ℕ) → (after e w t).waiting ≡ true → waits_for (step e w).world.state t ≡ index_of t → ⊥
-none_own_word e w n h = OwnersAfter.none_own_word e w (record { memory = n; sound = tables_sound w.state h; owned = tables_owned present w.state h })
-
-pub none_own_word_always : (words : List ℕ) → length words ≡ memory_words → (h : List Event)
-    → (t : ℕ) → (thread_of (final h (start words)).state t).waiting ≡ true → waits_for (final h (start words)).state t ≡ index_of t → ⊥
-none_own_word_always words n h = OwnersAfter.apart_valid _ (final_valid h (start words) (start_valid words n))
-
--- "it is -22, reason 9, plain calls included, before -110 and whatever the deadline": when that row applies to a call, in tables that keep the rules
--- and by a thread that there is; `reason-exactly` says when it answers. To a wait, exactly if the owner that its word would have is the caller, or sleeps
--- there;
-pub own_word_of_waits : (c : Call) (o : Owning) (w : World) → tables_ok w.state ≡ true → c.process < processes → c.index < threads_per_process
-    → IsWait (command_of c.op)
-    → let t = thread_number c.process (owner_given o (owner_of c.process c.uaddr w.state)) in
-    would_own c o w ≡ (eqb t (caller c) || sleeps_at c.process c.uaddr w.state t)
-own_word_of_waits c o w h = OwnWord'.own_word_wait c o w (tables_sound w.state h) (tables_owned present w.state h)
-
--- to a requeue, exactly if the owner that its target would have is moved there, or sleeps there and is not released;
-pub own_word_of_requeues : (c : Call) (o : Owning) (w : World) → tables_ok w.state ≡ true → c.process < processes → c.index < threads_per_process
-    → (uses (command_of c.op)).moves ≡ true → c.uaddr2 % word_bytes ≡ 0 → c.uaddr2 < bytes_per_process
-    → let t = thread_number c.process (owner_given o (owner_of c.process c.uaddr2 w.state)) in
-    let k = command_of c.op in
-    would_own c o w ≡ (elem t (moved k c w.state) || not (elem t (released k c w.state)) && sleeps_at c.process c.uaddr2 w.state t)
-own_word_of_requeues c o w h = OwnWord'.own_word_requeue c o w (tables_sound w.state h) (tables_owned present w.state h)
-
--- and never to a wake or WAKE_OP.
-pub no_own_word_of_wakes : (c : Call) (o : Owning) (w : World) → tables_ok w.state ≡ true → c.process < processes → c.index < threads_per_process
-    → (uses (command_of c.op)).deadline ≡ false → (uses (command_of c.op)).moves ≡ false → would_own c o w ≡ false
-no_own_word_of_wakes c o w h = OwnWord'.own_word_other c o w (tables_sound w.state h) (tables_owned present w.state h)
 
 -- The twelve cases of document 01, P1 to P12, come out as it says, P8 as request (ii) amends it.
 pub twelve_cases : map given twelve ≡ twelve
@@ -459,17 +384,6 @@ priorities_of_cases = Cases.prioritised_given
 pub orders_of_cases : map chosen_as choices ≡ choices
 orders_of_cases = Cases.choices_given
 
--- who owns a word after each kind of operation, and what would leave a thread asleep on its own word, each beside some that would not,
-pub owners_of_cases : map owned_as owned ≡ owned
-owners_of_cases = Cases.owner_cases
-
-pub own_words_of_cases : map owned_as own_words ≡ own_words
-own_words_of_cases = Cases.own_word_cases
-
--- tables that break a rule of owners, each beside some that keep it,
-pub ruled_of_cases : map ruled_as ruled_tables ≡ ruled_tables
-ruled_of_cases = Cases.ruled_cases
-
 -- what each process is answered and what is kept for it of one history of several,
 pub mixed_history : map share_of shares ≡ shares
 mixed_history = Cases.shares_given
@@ -484,21 +398,19 @@ unsound_worlds = Cases.unsounds_given
 pub rules_kept : (e : Event) (w : World) → length w.words ≡ memory_words → tables_ok w.state ≡ true
     → tables_ok (step e w).world.state ≡ true
 rules_kept e w n h =
-    let v = step_valid e w (record { memory = n; sound = tables_sound w.state h; owned = tables_owned present w.state h }) in
-    sound_tables _ v.sound v.owned
+    sound_tables _ (step_valid e w (record { memory = n; sound = tables_sound w.state h })).sound
 
 -- From the fresh state, over full-length memory, every history leaves tables that keep the table rules, and memory of full length.
 pub rules_kept_always : (words : List ℕ) → length words ≡ memory_words → (h : List Event)
     → (tables_ok (final h (start words)).state ≡ true) × (length (final h (start words)).words ≡ memory_words)
 rules_kept_always words n h =
     let v = final_valid h (start words) (start_valid words n) in
-    (sound_tables _ v.sound v.owned, v.memory)
+    (sound_tables _ v.sound, v.memory)
 
 -- Demand 3, for any number p: "Take any of the eight processes and any two histories .. Both start from the fresh state over
 -- full-length memory, with equal words for that process. .. Strike from both the events that name another process. If equal lists
 -- are left, clock events included, then, whatever the other processes did, that process's events got the same answers in the same
--- order .. At the end its words, its thread records and the order of its sleepers are the same too"; "demand 3 covers
--- [kinds 6 to 9] and owners". An answer has its reason in it; the order of
+-- order .. At the end its words, its thread records and the order of its sleepers are the same too." An answer has its reason in it; the order of
 -- sleepers is that of the list.
 pub isolation : (p : ℕ) (us vs : List ℕ) → length us ≡ memory_words → length vs ≡ memory_words
     → ((a : ℕ) → a < bytes_per_process → word_at (start us) p a ≡ word_at (start vs) p a)

@@ -12,15 +12,13 @@ use Rattle.lists.proofs.Filter.{filter_true}
 use Rattle.lists.proofs.Occurs.{occurs, elem_occurs}
 use Rattle.lists.proofs.Count.{length_count, count_below_ext}
 use Rattle.tables.specs.declared.State.{State}
-use Rattle.tables.specs.declared.Thread.{Thread}
 use Rattle.tables.specs.declared.LastAnswer.{LastAnswer}
 use Rattle.tables.specs.Sizes.{threads}
 use Rattle.tables.specs.Editions.{present}
-use Rattle.tables.specs.Tables.{fresh_thread, thread_of, arrivals, ended, moved_to, with_clock, end_in, end_sleeps, move_in, move_sleeps, sleeps_at, set_owner}
-use Rattle.rules.specs.Claims.{but_owner, Took, woke, shifted}
+use Rattle.tables.specs.Tables.{fresh_thread, thread_of, arrivals, ended, moved_to, with_clock, end_in, end_sleeps, move_in, move_sleeps}
+use Rattle.rules.specs.Claims.{Took, woke, shifted}
 use Rattle.tables.proofs.Changes.{length_change, change_other, change_named, arrivals_end, arrivals_move}
 use Rattle.tables.proofs.Sound.{Sound, once, none_above}
-use Rattle.tables.proofs.Owners.{at_waits, set_at, set_list}
 
 absent {ℓ} : {P : Type ℓ} → false ≡ true → P
 absent e = clash false e refl
@@ -51,7 +49,7 @@ module _ (a : LastAnswer) (out : List ℕ) (s : State) (size : length s.threads 
       record {
         ran = end_ran;
         went = λ t e. absent e;
-        stayed = λ t e d. ap but_owner (end_stayed t e);
+        stayed = λ t e d. end_stayed t e;
         order = arrivals_end present a out s ∙ sym (without_none (without out (arrivals s)));
       }
 
@@ -64,10 +62,10 @@ module _ (a : LastAnswer) (out : List ℕ) (s : State) (size : length s.threads 
         ran = λ t e. cases (elem t on)
             (λ d. clash (elem t out) e (apart t d))
             (λ d. change_other (moved_to target) on u.threads t fresh_thread d ∙ end_ran t e);
-        went = λ t d. ap but_owner
-            (change_named (moved_to target) on u.threads t fresh_thread d (let h = below t d in omega (arith, sized))
-            ∙ ap (moved_to target) (end_stayed t (apart t d)));
-        stayed = λ t e d. ap but_owner (change_other (moved_to target) on u.threads t fresh_thread d ∙ end_stayed t e);
+        went = λ t d.
+            change_named (moved_to target) on u.threads t fresh_thread d (let h = below t d in omega (arith, sized))
+            ∙ ap (moved_to target) (end_stayed t (apart t d));
+        stayed = λ t e d. change_other (moved_to target) on u.threads t fresh_thread d ∙ end_stayed t e;
         order = arrivals_move present target on u ∙ ap (λ l. without on l ++ on) (arrivals_end present a out s);
       }
     where
@@ -81,46 +79,25 @@ module _ (a : LastAnswer) (out : List ℕ) (s : State) (size : length s.threads 
 pub took_clock : {a : LastAnswer} {out on : List ℕ} {target : ℕ} {s u : State} (now : ℕ) → Took a out on target (with_clock now s) u → Took a out on target s u
 took_clock now took = record { ran = took.ran; went = took.went; stayed = took.stayed; order = took.order }
 
--- a word's owner changes nothing else of its sleepers' records
-pub set_but_owner : (p a o : ℕ) (s : State) (t : ℕ) → but_owner (thread_of (set_owner p a o s) t) ≡ but_owner (thread_of s t)
-set_but_owner p a o s t = ap but_owner (set_at present p a o s t) ∙ cases (sleeps_at p a s t) (λ e. rw e) (λ e. rw e)
-
-pub took_set : {a : LastAnswer} {out on : List ℕ} {target : ℕ} {s u : State} (p b o : ℕ) → Took a out on target s u → Took a out on target s (set_owner p b o u)
-took_set {u = u} p b o took =
-    record {
-      ran = λ t e. cases (sleeps_at p b u t)
-          (λ h. clash (thread_of u t).waiting (at_waits present p b t (thread_of u t) h) (ap (λ (r : Thread). r.waiting) (took.ran t e)))
-          (λ h. set_at present p b o u t ∙ rw h (took.ran t e));
-      went = λ t e. set_but_owner p b o u t ∙ took.went t e;
-      stayed = λ t e d. set_but_owner p b o u t ∙ took.stayed t e d;
-      order = set_list present p b o u ∙ took.order;
-    }
-
 -- The lists are as long as there are such records.
 module _ (a : LastAnswer) (out on : List ℕ) (target : ℕ) (s u : State) (g : Sound s) (took : Took a out on target s u)
     (listed : (t : ℕ) → occurs t out + occurs t on ≤ occurs t (arrivals s)) (away : (t : ℕ) → elem t on ≡ true → eqb (thread_of s t).uaddr target ≡ false) where
   was_waiting : (t : ℕ) → 1 ≤ occurs t out + occurs t on → (thread_of s t).waiting ≡ true
   was_waiting t h = bit_true (thread_of s t).waiting (omega (arith, listed t, g.exact t))
 
-  waits_as : (t : ℕ) (r : Thread) → but_owner (thread_of u t) ≡ but_owner r → (thread_of u t).waiting ≡ r.waiting
-  waits_as t r e = ap (λ (r : Thread). r.waiting) e
-
-  lies_as : (t : ℕ) (r : Thread) → but_owner (thread_of u t) ≡ but_owner r → (thread_of u t).uaddr ≡ r.uaddr
-  lies_as t r e = ap (λ (r : Thread). r.uaddr) e
-
   out_woke : (t : ℕ) → elem t out ≡ woke s u t
   out_woke t = cases (elem t out)
       (λ e. let b = was_waiting t (omega (arith, elem_occurs t out e)) in rw (e, b, took.ran t e))
       (λ e. cases (elem t on)
-      (λ d. let b = was_waiting t (omega (arith, elem_occurs t on d)) in rw (e, waits_as t (moved_to target (thread_of s t)) (took.went t d), b))
-      (λ d. rw (e, waits_as t (thread_of s t) (took.stayed t e d)) (cases (thread_of s t).waiting (λ b. rw b) (λ b. rw b))))
+      (λ d. let b = was_waiting t (omega (arith, elem_occurs t on d)) in rw (e, took.went t d, b))
+      (λ d. rw (e, took.stayed t e d) (cases (thread_of s t).waiting (λ b. rw b) (λ b. rw b))))
 
   on_shifted : (t : ℕ) → elem t on ≡ shifted s u t
   on_shifted t = cases (elem t on)
-      (λ d. let b = was_waiting t (omega (arith, elem_occurs t on d)) in rw (d, waits_as t (moved_to target (thread_of s t)) (took.went t d), lies_as t (moved_to target (thread_of s t)) (took.went t d), b, away t d))
+      (λ d. let b = was_waiting t (omega (arith, elem_occurs t on d)) in rw (d, took.went t d, b, away t d))
       (λ d. cases (elem t out)
       (λ e. rw (d, took.ran t e) (cases (thread_of s t).waiting (λ b. rw b) (λ b. rw b)))
-      (λ e. rw (d, waits_as t (thread_of s t) (took.stayed t e d), lies_as t (thread_of s t) (took.stayed t e d), eqb_refl (thread_of s t).uaddr) (cases (thread_of s t).waiting (λ b. rw b) (λ b. rw b))))
+      (λ e. rw (d, took.stayed t e d, eqb_refl (thread_of s t).uaddr) (cases (thread_of s t).waiting (λ b. rw b) (λ b. rw b))))
 
   pub count_woke : length out ≡ count_below threads (woke s u)
   count_woke =

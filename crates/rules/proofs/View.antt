@@ -1,27 +1,25 @@
 -- What a process sees: the world with all that is other processes' taken out. Each change on the view is the view of the change.
-use mathlib.Core.Path.{◌≡◌, refl, sym, ap, ◌∙◌}
-use mathlib.Core.Bool.{Bool, true, false, cond, and-false}
+use mathlib.Core.Path.{◌≡◌, refl, ap, ◌∙◌}
+use mathlib.Core.Bool.{Bool, true, false, cond}
 use mathlib.Core.List.{List, [], ◌∷◌, ◌++◌, append-nil}
 use Prim.Native.Nat.{ℕ, ◌/◌, ◌<◌}
 use native.Mathlib.Omega.{arith}
 use lib.ListN.{get_or, set}
 use lib.Dec.{eqb}
-use borrow.Author.Tests.{eqb-true, eqb-false, eq-eqb, ne_eqb, leb-false}
-use Rattle.lists.specs.Lists.{filter, all, update, elem, without}
-use Rattle.lists.proofs.Tests.{cases, clash, and_left, eqb_refl}
-use Rattle.lists.proofs.Filter.{filter_append, filter_true, filter_within, all_filter}
-use Rattle.lists.proofs.Count.{every_below_ext}
-use Rattle.lists.proofs.Update.{length_update, get_d_update_fixed, update_comm, update_id, update_set, update_set_forgotten}
+use borrow.Author.Tests.{eq-eqb, ne_eqb, leb-false}
+use Rattle.lists.specs.Lists.{filter, update, elem, without}
+use Rattle.lists.proofs.Tests.{cases}
+use Rattle.lists.proofs.Filter.{filter_append, filter_true}
+use Rattle.lists.proofs.Update.{length_update, get_d_update_fixed, update_comm, update_set, update_set_forgotten}
 use Rattle.lists.proofs.Occurs.{occurs_filter, occurs_filtered_out, elem_filter, elem_filtered_out, without_filter}
 use Rattle.tables.specs.declared.State.{State}
 use Rattle.tables.specs.declared.Thread.{Thread}
 use Rattle.tables.specs.declared.LastAnswer.{LastAnswer}
-use Rattle.tables.specs.Sizes.{threads, threads_per_process, words_per_process, bytes_per_process}
+use Rattle.tables.specs.Sizes.{threads_per_process, words_per_process, bytes_per_process}
 use Rattle.tables.specs.Editions.{present}
-use Rattle.tables.specs.Tables.{outside, World, thread_number, process_of, word_number, word_at, fresh_thread, thread_of, arrivals, at_word, sleeps_at, queue_in, queue, owner_among, owner_in, owner_of, waits_for_in, waits_for, is_owner, every_sleeper, change, ended, moved_to, with_arrivals, with_threads, with_clock, with_priority, with_owner, end_in, end_sleeps, move_in, move_sleeps, sleep_in, fall_asleep, set_priority, set_owner_in, set_owner, write_word, with_state}
+use Rattle.tables.specs.Tables.{outside, World, thread_number, process_of, word_number, word_at, fresh_thread, thread_of, arrivals, change, ended, moved_to, with_arrivals, with_threads, with_clock, with_priority, end_in, end_sleeps, move_in, move_sleeps, sleep_in, fall_asleep, set_priority, write_word, with_state}
 use Rattle.tables.proofs.Changes.{arrivals_with, change_none}
 use Rattle.tables.proofs.Sound.{Sound, fresh_ok, sound_with}
-use Rattle.tables.proofs.Owners.{Owned, owned_fewer}
 use Rattle.rules.proofs.Preserved.{Valid}
 
 -- thread t, and word number i, are process p's
@@ -86,10 +84,6 @@ module _ (p : ℕ) where
   pub view_own : (s : State) (t : ℕ) → own_thread p t ≡ true → thread_of (view_state p s) t ≡ thread_of s t
   unfolding view_state
   view_own s t e = get_d_own (own_thread p) fresh_thread s.threads t fresh_thread e
-
-  view_fresh : (s : State) (t : ℕ) → own_thread p t ≡ false → thread_of (view_state p s) t ≡ fresh_thread
-  unfolding view_state
-  view_fresh s t e = get_d_other (own_thread p) fresh_thread s.threads t e
 
   pub view_clock : (s : State) → (view_state p s).clock ≡ s.clock
   unfolding view_state
@@ -170,30 +164,6 @@ module _ (p : ℕ) where
   pub view_priority_other : (n t : ℕ) (s : State) → own_thread p t ≡ false → view_state p (set_priority n t s) ≡ view_state p s
   view_priority_other n t s e = view_priority n t s ∙ rw e (ap (λ rs. with_threads rs (view_state p s)) (change_none (with_priority n) (view_state p s).threads))
 
-  -- an owner is set of whatever process's word, and seen of the own
-  module _ (q a o : ℕ) (s : State) where
-    abbrev seen : ℕ → Thread → Thread
-    seen t r = cond (own_thread p t) r fresh_thread
-
-    abbrev owned : ℕ → Thread → Thread
-    owned t r = cond (at_word present q a t r) (with_owner o r) r
-
-    pub view_set : view_state p (set_owner q a o s) ≡ set_owner q a o (view_state p s)
-    unfolding view_state set_owner_in
-    view_set = cc (update_comm seen owned seen owned pointwise s.threads)
-      where
-        pointwise : (t : ℕ) (r : Thread) → seen t (owned t r) ≡ owned t (seen t r)
-        pointwise t r = cases (own_thread p t) (λ e. rw e) (λ e. rw (e, and-false (eqb (process_of t) q)))
-
-    pub view_set_other : (p ≡ q → ⊥) → view_state p (set_owner q a o s) ≡ view_state p s
-    unfolding view_state set_owner_in
-    view_set_other apart = cc (update_comm seen owned (λ t r. r) seen pointwise s.threads, update_id (λ t (r : Thread). r) (λ t r. refl) s.threads)
-      where
-        pointwise : (t : ℕ) (r : Thread) → seen t (owned t r) ≡ seen t r
-        pointwise t r = cases (own_thread p t)
-            (λ e. rw (e, ne_eqb (process_of t) q (λ d. apart (sym (eqb-true (process_of t) p e) ∙ d))))
-            (λ e. rw e)
-
   pub view_with_clock : (now : ℕ) (s : State) → view_state p (with_clock now s) ≡ with_clock now (view_state p s)
   unfolding view_state
   view_with_clock now s = refl
@@ -238,60 +208,6 @@ module _ (p : ℕ) where
       (λ e. rw (get_d_own (own_thread p) fresh_thread s.threads t fresh_thread e) (occurs_filter (own_thread p) t (arrivals s) e ∙ g.exact t))
       (λ e. rw (get_d_other (own_thread p) fresh_thread s.threads t e) (occurs_filtered_out (own_thread p) t (arrivals s) e)))
 
-  view_owned : (s : State) → Owned s → Owned (view_state p s)
-  view_owned s o = owned_fewer s (view_state p s) o
-      (λ t. cases (own_thread p t)
-      (λ e. ap (λ (r : Thread). is_owner r.owner) (view_own s t e) ∙ o.named t)
-      (λ e. ap (λ (r : Thread). is_owner r.owner) (view_fresh s t e)))
-      (λ t on. cases (own_thread p t)
-      (λ e. ap (with_priority 0) (view_own s t e))
-      (λ e. clash (thread_of (view_state p s) t).waiting on (ap (λ (r : Thread). r.waiting) (view_fresh s t e))))
-
   pub view_valid : (w : World) → Valid w → Valid (view p w)
   unfolding view
-  view_valid w g =
-      record { memory = length_update _ w.words ∙ g.memory; sound = view_sound w.state g.sound; owned = view_owned w.state g.owned }
-
-  -- the owners of a process's words are fixed by its records and the order of its sleepers
-  module _ (s u : State) (records : (t : ℕ) → own_thread p t ≡ true → thread_of s t ≡ thread_of u t)
-      (order : filter (own_thread p) (arrivals s) ≡ filter (own_thread p) (arrivals u)) (a : ℕ) where
-    queue_alike : queue p a s ≡ queue p a u
-    unfolding queue_in
-    queue_alike =
-        sym (filter_within (sleeps_at p a s) (sleeps_at p a s) (own_thread p) (λ t e. refl) (λ t e. rw e) (arrivals s))
-        ∙ ap (filter (sleeps_at p a s)) order
-        ∙ filter_within (sleeps_at p a s) (sleeps_at p a u) (own_thread p) (λ t e. ap (at_word present p a t) (records t e)) (λ t e. rw e) (arrivals u)
-
-    pub owner_alike : owner_of p a s ≡ owner_of p a u
-    unfolding owner_in
-    owner_alike = seen (queue p a s) (unfold queue_in in (all_filter (sleeps_at p a s) (arrivals s))) ∙ ap (owner_among u) queue_alike
-      where
-        seen : (l : List ℕ) → all (sleeps_at p a s) l ≡ true → owner_among s l ≡ owner_among u l
-        seen [] h = refl
-        seen (t ∷ ts) h = ap (λ (r : Thread). r.owner) (records t (and_left (own_thread p t) _ (and_left (sleeps_at p a s t) (all (sleeps_at p a s) ts) h)))
-
-  pub view_owner : (a : ℕ) (s : State) → owner_of p a (view_state p s) ≡ owner_of p a s
-  view_owner a s = owner_alike (view_state p s) s (view_own s)
-      (ap (filter (own_thread p)) (view_arrivals s) ∙ filter_within (own_thread p) (own_thread p) (own_thread p) (λ t e. refl) (λ t e. e) (arrivals s)) a
-
-  pub view_waits_for : (s : State) (t : ℕ) → own_thread p t ≡ true → waits_for (view_state p s) t ≡ waits_for s t
-  unfolding waits_for_in
-  view_waits_for s t e = rw (view_own s t e, eqb-true (process_of t) p e) (view_owner (thread_of s t).uaddr s)
-
--- A rule of sleepers that each process's view decides, and that held before a change which only process p sees, holds after it exactly if it does
--- on p's view.
-pub same_rule : (r : State → ℕ → Bool) → ((q : ℕ) (s : State) (t : ℕ) → own_thread q t ≡ true → r (view_state q s) t ≡ r s t)
-    → (p : ℕ) (s u : State) → ((q : ℕ) → (q ≡ p → ⊥) → view_state q u ≡ view_state q s) → ((t : ℕ) → (thread_of s t).waiting ≡ true → r s t ≡ true)
-    → every_sleeper present (view_state p u) (r (view_state p u)) ≡ every_sleeper present u (r u)
-unfolding every_sleeper
-same_rule r decides p s u unseen held = every_below_ext threads _ _ (λ t l. cases (own_thread p t)
-    (λ e. rw (view_own p u t e, decides p u t e))
-    (λ e. rw (view_fresh p u t e) (cases (thread_of u t).waiting (λ on. rw (on, others t e on)) (λ off. rw off))))
-  where
-    others : (t : ℕ) → own_thread p t ≡ false → (thread_of u t).waiting ≡ true → r u t ≡ true
-    others t e on =
-        let q = process_of t in
-        let it : own_thread q t ≡ true = eqb_refl q in
-        let same = unseen q (eqb-false q p e) in
-        let record_same = sym (view_own q u t it) ∙ ap (λ v. thread_of v t) same ∙ view_own q s t it in
-        sym (decides q u t it) ∙ ap (λ v. r v t) same ∙ decides q s t it ∙ held t (ap (λ (x : Thread). x.waiting) (sym record_same) ∙ on)
+  view_valid w g = record { memory = length_update _ w.words ∙ g.memory; sound = view_sound w.state g.sound }

@@ -5,12 +5,12 @@ use Rattle.tables.specs.declared.LastAnswer.TheVariants.{NoneYet, Woken, TimedOu
 use Rattle.rules.specs.declared.answer.Errno.{Errno}
 use Rattle.rules.specs.declared.answer.Errno.TheVariants.{ENXIO, EBADF, ESRCH, EBUSY, ENOSYS, EINVAL, EFAULT, EAGAIN, ETIMEDOUT}
 use Rattle.rules.specs.declared.answer.Reason.{Reason}
-use Rattle.rules.specs.declared.answer.Reason.TheVariants.{NoReason, FirstCap, SecondCap, MaskZero, UaddrUnaligned, Uaddr2Unaligned, SameAddress, ClockBack, PriorityHigh, OwnWord}
+use Rattle.rules.specs.declared.answer.Reason.TheVariants.{NoReason, FirstCap, SecondCap, MaskZero, UaddrUnaligned, Uaddr2Unaligned, SameAddress, ClockBack, PriorityHigh}
 use Rattle.rules.specs.declared.answer.Refusal.{Refusal}
 use Rattle.rules.specs.declared.answer.Verdict.{Verdict}
 use Rattle.rules.specs.declared.answer.Verdict.TheVariants.{Refuse, Pass}
 use Rattle.rules.specs.declared.answer.Answer.{Answer}
-use Rattle.rules.specs.declared.answer.Answer.TheVariants.{Asleep, Count, Refused, Waiting, Owner}
+use Rattle.rules.specs.declared.answer.Answer.TheVariants.{Asleep, Count, Refused, Waiting}
 use Rattle.rules.specs.declared.answer.Answered.{Answered}
 use Rattle.tables.specs.Editions.{Edition, present}
 use Rattle.tables.specs.Tables.{WorldIn}
@@ -28,8 +28,7 @@ errno_number EAGAIN = 11
 errno_number ETIMEDOUT = 110
 
 -- "1 first cap, 2 second cap, 3 mask zero, 4 uaddr not aligned (also a store's address), 5 uaddr2 not aligned, 6 same address twice,
--- 7 clock went back; 0 with every other answer"; "-22 if above 31 (reason 8)"; "no operation may leave a thread both owner of a word and asleep
--- there: it is -22, reason 9"
+-- 7 clock went back; 0 with every other answer"; "-22 if above 31 (reason 8)"
 abbrev pub reason_number : Reason → ℕ
 reason_number NoReason = 0
 reason_number FirstCap = 1
@@ -40,20 +39,17 @@ reason_number Uaddr2Unaligned = 5
 reason_number SameAddress = 6
 reason_number ClockBack = 7
 reason_number PriorityHigh = 8
-reason_number OwnWord = 9
 
 -- To a host, "asleep" is this number.
 abbrev pub asleep_number : ℕ
 asleep_number = 2147483647
 
--- "A call answers "asleep" or one signed 32-bit number: a count, or the error number negated"; a panel query gives three; an owner
--- query "answers the index or 255".
+-- "A call answers "asleep" or one signed 32-bit number: a count, or the error number negated"; a panel query gives three.
 abbrev pub answer_numbers : Answer → List ℤ
 answer_numbers Asleep = pos asleep_number ∷ []
 answer_numbers (Count n) = pos n ∷ []
 answer_numbers (Refused x) = neg_ℤ (pos (errno_number x.errno)) ∷ []
 answer_numbers (Waiting v) = pos v.waiting ∷ pos v.count ∷ pos v.lowest ∷ []
-answer_numbers (Owner n) = pos n ∷ []
 
 -- "Beside the number, give a reason"
 abbrev pub reason_of : Answer → Reason
@@ -61,7 +57,6 @@ reason_of Asleep = NoReason
 reason_of (Count n) = NoReason
 reason_of (Refused x) = x.reason
 reason_of (Waiting v) = NoReason
-reason_of (Owner n) = NoReason
 
 -- the number that has a reason beside it, -22
 abbrev pub is_minus22 : ℤ → Bool
@@ -125,7 +120,6 @@ is_refused Asleep = false
 is_refused (Count n) = false
 is_refused (Refused x) = true
 is_refused (Waiting v) = false
-is_refused (Owner n) = false
 
 -- what the code hands back of it; the words it changes where they lie
 abbrev pub answered : {ed : Edition} → OutcomeIn ed → Answered

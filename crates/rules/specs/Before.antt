@@ -7,7 +7,7 @@ use Rattle.rules.specs.declared.event.Call.{Call}
 use Rattle.rules.specs.declared.event.Event.{Event}
 use Rattle.rules.specs.declared.answer.Errno.TheVariants.{EINVAL}
 use Rattle.rules.specs.declared.answer.Answer.{Answer}
-use Rattle.rules.specs.declared.answer.Answer.TheVariants.{Asleep, Count, Refused, Waiting, Owner}
+use Rattle.rules.specs.declared.answer.Answer.TheVariants.{Asleep, Count, Refused, Waiting}
 use Rattle.tables.specs.Editions.{by_arrival, Edition, edition, present}
 use Rattle.tables.specs.Sizes.{threads, word_bits}
 use Rattle.tables.specs.Tables.{WorldIn, World, thread_of, word_at}
@@ -15,7 +15,7 @@ use Rattle.rules.specs.Answers.{answer_numbers, Row, plain, ◌when◌, by_rows,
 use Rattle.rules.specs.Commands.{command_of}
 use Rattle.rules.specs.Signed.{negative}
 use Rattle.rules.specs.WakeOp.{arg_bits, cmp_field, op_arg_field, cmp_arg_field, is_power, op_code, operate, compare_by}
-use Rattle.rules.specs.Calls.{first_rows, caller, bad_argument, is_wake_op, table_with, would_own, old_word, second_by, wake_op_by}
+use Rattle.rules.specs.Calls.{first_rows, caller, bad_argument, is_wake_op, table_with, old_word, second_by, wake_op_by}
 use Rattle.rules.specs.Events.{own_rows, is_query, of_call, refusals, effect, step}
 
 -- Before request (i): document 01's one row for -22, and no reason beside any error.
@@ -25,8 +25,7 @@ row_without_reason r = r.refusal.errno when r.applies
 
 abbrev pub own_rows_without_reasons : Event → World → List Row
 own_rows_without_reasons e w = of_call
-    (λ c o. map row_without_reason
-    (table_with present (EINVAL when bad_argument (command_of c.op) c ∷ []) c o (thread_of w.state (caller c)).waiting w.state.clock (word_at w c.process c.uaddr) (would_own c o w)))
+    (λ c. table_with present (EINVAL when bad_argument (command_of c.op) c ∷ []) c (thread_of w.state (caller c)).waiting w.state.clock (word_at w c.process c.uaddr))
     (map row_without_reason (own_rows e w)) e
 
 unfoldable pub refusals_without_reasons : Event → World → List Row
@@ -41,7 +40,6 @@ without_reason Asleep = Asleep
 without_reason (Count n) = Count n
 without_reason (Refused x) = Refused (plain x.errno)
 without_reason (Waiting v) = Waiting v
-without_reason (Owner n) = Owner n
 
 -- Before request (ii): document 01's WAKE_OP, "oparg and cmparg are 0 to 4095 and comparisons are unsigned".
 
@@ -55,10 +53,10 @@ abbrev pub compares_unsigned : ℕ → ℕ → Bool
 compares_unsigned v old = compare_by eqb ltb (cmp_field v) old (cmp_arg_field v)
 
 abbrev pub wake_op_unsigned : Command → Call → World → Outcome
-wake_op_unsigned k c w = wake_op_by (new_word_unsigned c.val3 (old_word c w)) (compares_unsigned c.val3 (old_word c w)) (second_by compares_unsigned k c w) k c w
+wake_op_unsigned k c w = wake_op_by (new_word_unsigned c.val3 (old_word c w)) (second_by compares_unsigned k c w) k c w
 
 abbrev pub effect_unsigned : Event → World → Outcome
-effect_unsigned e w = of_call (λ c o. let k = command_of c.op in cond (is_wake_op k) (wake_op_unsigned k c w) (effect e w)) (effect e w) e
+effect_unsigned e w = of_call (λ c. let k = command_of c.op in cond (is_wake_op k) (wake_op_unsigned k c w) (effect e w)) (effect e w) e
 
 unfoldable pub step_unsigned : Event → World → Outcome
 step_unsigned e w = judged (first (refusals e w)) (effect_unsigned e w) w
@@ -67,7 +65,7 @@ step_unsigned e w = judged (first (refusals e w)) (effect_unsigned e w) w
 -- power-of-two operand is still 2 to the power (oparg mod 32)", whatever oparg
 abbrev pub none_negative : Event → World → Bool
 none_negative e w = of_call
-    (λ c o.
+    (λ c.
     not (is_wake_op (command_of c.op))
     || (is_power c.val3 || not (negative arg_bits (op_arg_field c.val3)))
     && not (negative arg_bits (cmp_arg_field c.val3))
@@ -95,7 +93,7 @@ as_with12 o = record { answer = other o.answer; world = o.world }
 
 -- "the arrival list already holds 64", asked of calls alone
 abbrev pub full : Event → World → Bool
-full e w = of_call (λ c o. leb threads w.state.count) false e
+full e w = of_call (λ c. leb threads w.state.count) false e
 
 -- A table of answers with the row for -12 below its rows: the first that applies answers, and "leaves words, records, list and clock unchanged".
 unfoldable pub judged_with12 : List Row → Bool → Outcome → World → OutcomeWith12

@@ -1,15 +1,14 @@
 -- "Twelve to be proved together": P1 to P12, each run from the fresh state over zero words, in one table; beside them further cases, the
 -- reasons of request (i), and one history of several processes. proofs/Theorems.antt has a statement for each table.
-use Rattle.std.specs.Prelude.{Bool, true, false, List, [], ◌∷◌, ◌++◌, map, ℕ, suc, ◌-◌, length, replicate, ℤ, pos, neg_ℤ}
+use Rattle.std.specs.Prelude.{Bool, true, false, List, [], ◌∷◌, ◌++◌, map, ℕ, suc, ◌-◌, replicate, ℤ, pos, neg_ℤ}
 use Rattle.tables.specs.declared.State.{State}
 use Rattle.tables.specs.declared.Thread.{Thread}
 use Rattle.tables.specs.declared.LastAnswer.{LastAnswer}
 use Rattle.tables.specs.declared.LastAnswer.TheVariants.{NoneYet, Woken, TimedOut, Interrupted}
 use Rattle.rules.specs.declared.event.Event.{Event}
-use Rattle.rules.specs.declared.event.Event.TheVariants.{Call, Store, Clock, Interrupt, Query, SetPriority, OwnerWait, OwnerWake, OwnerRequeue, OwnerQuery}
+use Rattle.rules.specs.declared.event.Event.TheVariants.{Call, Store, Clock, Interrupt, Query, SetPriority}
 use Rattle.tables.specs.Sizes.{memory_words, threads, threads_per_process, match_any, no_entry}
-use Rattle.lists.specs.Lists.{pad_to}
-use Rattle.tables.specs.Tables.{World, world, fresh_thread, with_priority, with_owner, asleep_at, thread_of, arrivals, word_at}
+use Rattle.tables.specs.Tables.{World, world, fresh_thread, with_priority, thread_of, arrivals, word_at}
 use Rattle.rules.specs.Answers.{reason_number, answer_numbers, reason_of, last_number}
 use Rattle.rules.specs.Events.{step}
 use Rattle.rules.specs.History.{start, final, answers, answers_to, kept_for}
@@ -22,7 +21,7 @@ abbrev pub other : ℕ
 other = 12
 
 -- the thread that wakes and requeues
-abbrev pub waker : ℕ
+abbrev waker : ℕ
 waker = threads_per_process - 1
 
 abbrev call_of : ℕ → ℕ → ℕ → ℕ → ℕ → ℕ → ℕ → ℕ → ℕ → Event
@@ -44,17 +43,6 @@ wait_mask i m = call_by i 9 address 0 0 0 0 m
 
 abbrev pub by_waker : ℕ → ℕ → ℕ → ℕ → ℕ → ℕ → Event
 by_waker op a v cap2 a2 v3 = call_by waker op a v 0 cap2 a2 v3
-
--- the owner family: a wait that names the owner of its word, and a requeue that names that of its target
-abbrev pub owner_wait_of : ℕ → ℕ → ℕ → ℕ → ℕ → ℕ → ℕ → Event
-owner_wait_of p i a v flag due o = OwnerWait (record { process = p; index = i; uaddr = a; val = v; flag = flag; deadline = due; owner = o })
-
-abbrev pub owner_requeue_of : ℕ → ℕ → ℕ → ℕ → ℕ → ℕ → ℕ → ℕ → ℕ → Event
-owner_requeue_of p i a cap v a2 cap2 o single =
-    OwnerRequeue (record { process = p; index = i; uaddr = a; cap = cap; val = v; uaddr2 = a2; cap2 = cap2; owner = o; single = single })
-
-abbrev pub owner_requeue : ℕ → ℕ → ℕ → ℕ → Event
-owner_requeue cap cap2 o single = owner_requeue_of 0 waker address cap 0 other cap2 o single
 
 -- a WAKE_OP that releases nobody at another word and, if its comparison holds, one here
 abbrev pub wake_op_at : ℕ → Event
@@ -168,20 +156,8 @@ further =
     ∷ line (wait_for 3 address 0 ∷ wait_for 1 address 0 ∷ Query 0 ∷ Query 1 ∷ Query 8 ∷ []) (asleep ∷ asleep ∷ three 10 2 1 ∷ three 0 0 8 ∷ three 0 0 8 ∷ []) (at 3 address ∷ at 1 address ∷ []) [] 0
     -- a process or index above 7: -3, by each event that names one
     ∷ line (call_of 8 0 1 address 1 0 0 0 0 ∷ call_of 0 8 1 address 1 0 0 0 0 ∷ Store 8 address 1 ∷ Interrupt 8 0 ∷ Interrupt 0 8 ∷ SetPriority 8 0 1 ∷ SetPriority 0 8 1 ∷ []) (minus 3 ∷ minus 3 ∷ minus 3 ∷ minus 3 ∷ minus 3 ∷ minus 3 ∷ minus 3 ∷ []) [] [] 0
-    ∷ line (owner_wait_of 8 0 address 0 0 0 1 ∷ owner_wait_of 0 8 address 0 0 0 1 ∷ OwnerWake 8 0 address ∷ OwnerWake 0 8 address ∷ owner_requeue_of 8 0 address 1 0 other 1 1 0 ∷ owner_requeue_of 0 8 address 1 0 other 1 1 0 ∷ OwnerQuery 8 0 address ∷ OwnerQuery 0 8 address ∷ [])
-    (minus 3 ∷ minus 3 ∷ minus 3 ∷ minus 3 ∷ minus 3 ∷ minus 3 ∷ minus 3 ∷ minus 3 ∷ []) [] [] 0
-    -- a call of a thread that waits: -16, an owner query's too
-    ∷ line (wait_for 0 address 0 ∷ call_by 0 1 address 1 0 0 0 0 ∷ owner_wait_of 0 0 address 0 0 0 1 ∷ OwnerWake 0 0 address ∷ owner_requeue_of 0 0 address 1 0 other 1 1 0 ∷ OwnerQuery 0 0 address ∷ [])
-    (asleep ∷ minus 16 ∷ minus 16 ∷ minus 16 ∷ minus 16 ∷ minus 16 ∷ []) (at 0 address ∷ []) [] 0
-    -- an owner wait: "absolute deadline", "its mask is all ones"; without the flag it has none
-    ∷ line (Clock 5 ∷ owner_wait_of 0 0 address 0 1 15 1 ∷ owner_wait_of 0 2 address 0 0 15 1 ∷ []) (number 0 ∷ asleep ∷ asleep ∷ []) (until 0 address 15 ∷ at 2 address ∷ []) [] 0
-    -- a single-owner wake "takes one sleeper", whatever its mask
-    ∷ line (wait_mask 0 1 ∷ wait_mask 1 2 ∷ OwnerWake 0 waker address ∷ []) (asleep ∷ asleep ∷ number 1 ∷ []) (masked 1 2 ∷ []) (woken 0 ∷ []) 0
-    -- an owner requeue, with P6's caps; "with the flag 1 the wake cap is ignored"
-    ∷ line (three_asleep ++ (owner_requeue 1 1 255 0 ∷ [])) (asleep ∷ asleep ∷ asleep ∷ number 2 ∷ []) (until 2 address 12 ∷ until 1 other 11 ∷ []) (woken 0 ∷ []) 0
-    ∷ line (three_asleep ++ (owner_requeue 0 1 255 1 ∷ [])) (asleep ∷ asleep ∷ asleep ∷ number 2 ∷ []) (until 2 address 12 ∷ until 1 other 11 ∷ []) (woken 0 ∷ []) 0
-    -- an owner query compares no word
-    ∷ line (Store 0 address 5 ∷ owner_wait_of 0 0 address 5 0 0 1 ∷ owner_wait_of 0 1 address 4 0 0 2 ∷ OwnerQuery 0 waker address ∷ []) (number 0 ∷ asleep ∷ minus 11 ∷ number 1 ∷ []) (at 0 address ∷ []) [] 5
+    -- a call of a thread that waits: -16
+    ∷ line (wait_for 0 address 0 ∷ call_by 0 1 address 1 0 0 0 0 ∷ []) (asleep ∷ minus 16 ∷ []) (at 0 address ∷ []) [] 0
     -- a store: not aligned -22, outside -14
     ∷ line (Store 0 9 1 ∷ Store 0 4096 1 ∷ Store 0 4097 1 ∷ Store 0 address 7 ∷ []) (minus 22 ∷ minus 14 ∷ minus 22 ∷ number 0 ∷ []) [] [] 7
     -- a wake takes the sleeper of the higher priority, and not the first in the list
@@ -225,16 +201,6 @@ reasoned =
     ∷ excused (cmp_requeue address 1 1 address) (minus 22) 6
     ∷ excused (Clock 4) (minus 22) 7
     ∷ excused (SetPriority 0 0 32) (minus 22) 8
-    ∷ excused (owner_wait_of 0 0 address 0 0 0 0) (minus 22) 9
-    -- the owner family's arguments
-    ∷ excused (owner_requeue big 1 1 0) (minus 22) 1
-    ∷ excused (owner_requeue 1 big 1 0) (minus 22) 2
-    ∷ excused (owner_requeue big big 1 1) (minus 22) 2
-    ∷ excused (owner_wait_of 0 0 9 0 0 0 1) (minus 22) 4
-    ∷ excused (OwnerWake 0 0 9) (minus 22) 4
-    ∷ excused (OwnerQuery 0 0 9) (minus 22) 4
-    ∷ excused (owner_requeue_of 0 0 address 1 0 13 1 1 0) (minus 22) 5
-    ∷ excused (owner_requeue_of 0 0 address 1 0 address 1 1 0) (minus 22) 6
     -- 1 with 2, 3, 4, 5, 6; 2 with 4, 5, 6; 3 with 4; 4 with 5, 6
     ∷ excused (cmp_requeue address big big other) (minus 22) 1
     ∷ excused (wake_mask address big 0) (minus 22) 1
@@ -248,8 +214,6 @@ reasoned =
     ∷ excused (cmp_requeue 9 1 1 13) (minus 22) 4
     -- 5 and 6 apply at once only with 4
     ∷ excused (cmp_requeue 9 1 1 9) (minus 22) 4
-    -- 4 with 9; the others with 9 ask for sleepers
-    ∷ excused (owner_wait_of 0 0 9 0 0 0 0) (minus 22) 4
     -- arguments that the command doesn't use, and other answers
     ∷ excused (call_by 0 0 address 0 0 big 13 0) asleep 0
     ∷ excused (wait_for 0 address big) (minus 11) 0
@@ -263,12 +227,6 @@ reasoned =
     ∷ excused (Query 8) (three 0 0 8) 0
     ∷ excused (SetPriority 0 0 31) (number 0) 0
     ∷ excused (SetPriority 0 8 32) (minus 3) 0
-    ∷ excused (owner_requeue big 1 1 1) (number 0) 0
-    ∷ excused (owner_wait_of 0 0 4096 0 0 0 0) (minus 14) 0
-    ∷ excused (owner_wait_of 0 0 address 1 0 0 0) (minus 11) 0
-    ∷ excused (owner_wait_of 0 0 address 0 0 0 8) (minus 3) 0
-    ∷ excused (owner_wait_of 0 0 address 0 1 5 1) (minus 110) 0
-    ∷ excused (OwnerQuery 0 0 address) (number 255) 0
     ∷ []
 
 -- what the rules give
@@ -301,30 +259,18 @@ given r =
     let v = final r.happens w in
     line r.happens (told r.happens w) (sleepers v.state) (ended_from 0 v.state.threads) (word_at v 0 address)
 
--- One history with events of processes 0, 1 and 9, of the clock, interrupts, panel queries, a priority and the owner family.
+-- One history with events of processes 0, 1 and 9, of the clock, interrupts, panel queries and a priority.
 abbrev sleep0 : Event
 sleep0 = call_of 0 1 0 address 0 0 0 0 0
 
 abbrev sleep1 : Event
 sleep1 = call_of 1 1 0 address 0 1 5 0 0
 
--- two words of one address, each with its owner
-abbrev own0 : Event
-own0 = owner_wait_of 0 2 address 0 0 0 3
-
-abbrev own1 : Event
-own1 = owner_wait_of 1 2 address 0 0 0 4
-
-abbrev move1 : Event
-move1 = owner_requeue_of 1 0 address 0 0 other 1 4 0
-
 abbrev wake1 : Event
 wake1 = call_of 1 0 1 address 1 0 0 0 0
 
 abbrev pub mixed : List Event
-mixed =
-    sleep0 ∷ own0 ∷ sleep1 ∷ own1 ∷ Store 9 address 1 ∷ OwnerWake 9 0 address ∷ Query 0 ∷ OwnerQuery 0 0 address ∷ OwnerQuery 1 0 address ∷ Clock 5 ∷ move1 ∷ wake1
-    ∷ Interrupt 0 1 ∷ OwnerWake 0 0 address ∷ Query 9 ∷ Query 1 ∷ SetPriority 1 0 32 ∷ Clock 4 ∷ []
+mixed = sleep0 ∷ sleep1 ∷ Store 9 address 1 ∷ Query 0 ∷ Clock 5 ∷ wake1 ∷ Interrupt 0 1 ∷ Query 9 ∷ Query 1 ∷ SetPriority 1 0 32 ∷ Clock 4 ∷ []
 
 -- what of it is a process's: the events that are kept for it, and what its own were answered
 pub record Share : Type 0 where
@@ -337,12 +283,10 @@ share p events numbers = record { process = p; kept = events; answers = numbers 
 
 abbrev pub shares : List Share
 shares =
-    share 0 (sleep0 ∷ own0 ∷ Query 0 ∷ OwnerQuery 0 0 address ∷ Clock 5 ∷ Interrupt 0 1 ∷ OwnerWake 0 0 address ∷ Clock 4 ∷ [])
-    (asleep ∷ asleep ∷ three 6 2 1 ∷ number 3 ∷ number 1 ∷ number 1 ∷ [])
-    ∷ share 1 (sleep1 ∷ own1 ∷ OwnerQuery 1 0 address ∷ Clock 5 ∷ move1 ∷ wake1 ∷ Query 1 ∷ SetPriority 1 0 32 ∷ Clock 4 ∷ [])
-    (asleep ∷ asleep ∷ number 4 ∷ number 1 ∷ number 0 ∷ three 4 1 2 ∷ minus 22 ∷ [])
+    share 0 (sleep0 ∷ Query 0 ∷ Clock 5 ∷ Interrupt 0 1 ∷ Clock 4 ∷ []) (asleep ∷ three 2 1 1 ∷ number 1 ∷ [])
+    ∷ share 1 (sleep1 ∷ Clock 5 ∷ wake1 ∷ Query 1 ∷ SetPriority 1 0 32 ∷ Clock 4 ∷ []) (asleep ∷ number 0 ∷ three 0 0 8 ∷ minus 22 ∷ [])
     ∷ share 2 (Clock 5 ∷ Clock 4 ∷ []) []
-    ∷ share 9 (Store 9 address 1 ∷ OwnerWake 9 0 address ∷ Clock 5 ∷ Query 9 ∷ Clock 4 ∷ []) (minus 3 ∷ minus 3 ∷ three 0 0 8 ∷ [])
+    ∷ share 9 (Store 9 address 1 ∷ Clock 5 ∷ Query 9 ∷ Clock 4 ∷ []) (minus 3 ∷ three 0 0 8 ∷ [])
     ∷ []
 
 abbrev pub share_of : Share → Share
@@ -357,36 +301,8 @@ abbrev high_priority : State
 high_priority =
     record { clock = 0; threads = replicate (threads - 1) fresh_thread ++ (with_priority 32 fresh_thread ∷ []); list = replicate threads no_entry; count = 0 }
 
--- Owners: tables whose first records are these, and whose list has these numbers; and a sleeper whose record has this owner.
-abbrev pub tables_of : List Thread → List ℕ → State
-tables_of rs l = record { clock = 0; threads = pad_to threads fresh_thread rs; list = pad_to threads no_entry l; count = length l }
-
-abbrev pub owned_sleep : ℕ → Thread
-owned_sleep o = with_owner o (asleep_at address match_any false 0 fresh_thread)
-
--- "each owner is an index or none", and none of a running thread
-abbrev pub bad_owner : State
-bad_owner = tables_of (owned_sleep 8 ∷ []) (0 ∷ [])
-
-abbrev pub running_owned : State
-running_owned = tables_of (with_owner 1 fresh_thread ∷ []) []
-
--- two sleepers of a word with two owners
-abbrev pub two_owners : State
-two_owners = tables_of (owned_sleep 2 ∷ owned_sleep 3 ∷ []) (0 ∷ 1 ∷ [])
-
--- "none asleep on its own word"
-abbrev pub on_own_word : State
-on_own_word = tables_of (owned_sleep 2 ∷ owned_sleep 2 ∷ owned_sleep 2 ∷ []) (0 ∷ 1 ∷ 2 ∷ [])
-
 abbrev pub each : List Event
-each =
-    wait_for 0 address 0 ∷ Store 0 address 1 ∷ Clock 1 ∷ Interrupt 0 0 ∷ Query 0 ∷ SetPriority 0 0 1
-    ∷ owner_wait_of 0 0 address 0 0 0 1 ∷ OwnerWake 0 0 address ∷ owner_requeue 1 1 1 0 ∷ OwnerQuery 0 0 address ∷ []
-
--- to each of them this error, but to the panel query no thread
-abbrev to_each : ℕ → List (List ℤ)
-to_each n = minus n ∷ minus n ∷ minus n ∷ minus n ∷ three 0 0 8 ∷ minus n ∷ minus n ∷ minus n ∷ minus n ∷ minus n ∷ []
+each = wait_for 0 address 0 ∷ Store 0 address 1 ∷ Clock 1 ∷ Interrupt 0 0 ∷ Query 0 ∷ SetPriority 0 0 1 ∷ []
 
 pub record Unsound : Type 0 where
   pub world : World
@@ -397,15 +313,11 @@ unsound w numbers = record { world = w; answers = numbers }
 
 abbrev pub unsounds : List Unsound
 unsounds =
-    unsound (start (0 ∷ [])) (to_each 6)
-    ∷ unsound (world broken_count (replicate memory_words 0)) (to_each 9)
-    ∷ unsound (world high_priority (replicate memory_words 0)) (to_each 9)
-    ∷ unsound (world bad_owner (replicate memory_words 0)) (to_each 9)
-    ∷ unsound (world running_owned (replicate memory_words 0)) (to_each 9)
-    ∷ unsound (world two_owners (replicate memory_words 0)) (to_each 9)
-    ∷ unsound (world on_own_word (replicate memory_words 0)) (to_each 9)
+    unsound (start (0 ∷ [])) (minus 6 ∷ minus 6 ∷ minus 6 ∷ minus 6 ∷ three 0 0 8 ∷ minus 6 ∷ [])
+    ∷ unsound (world broken_count (replicate memory_words 0)) (minus 9 ∷ minus 9 ∷ minus 9 ∷ minus 9 ∷ three 0 0 8 ∷ minus 9 ∷ [])
+    ∷ unsound (world high_priority (replicate memory_words 0)) (minus 9 ∷ minus 9 ∷ minus 9 ∷ minus 9 ∷ three 0 0 8 ∷ minus 9 ∷ [])
     -- both: "the first that applies answers"
-    ∷ unsound (world broken_count []) (to_each 6)
+    ∷ unsound (world broken_count []) (minus 6 ∷ minus 6 ∷ minus 6 ∷ minus 6 ∷ three 0 0 8 ∷ minus 6 ∷ [])
     ∷ []
 
 abbrev pub unsound_given : Unsound → Unsound

@@ -1,5 +1,5 @@
 -- The words in which the theorems of proofs/Theorems.antt speak of the rules.
-use Rattle.std.specs.Prelude.{◌≡◌, Bool, true, false, not, cond, ◌&&◌, ◌||◌, List, [], ◌∷◌, ◌++◌, ◌⊎◌, ℕ, ◌%◌, ◌<◌, length, set, eqb}
+use Rattle.std.specs.Prelude.{◌≡◌, Bool, true, false, not, cond, ◌&&◌, List, [], ◌∷◌, ◌++◌, ◌⊎◌, ℕ, ◌%◌, ◌<◌, length, set, eqb}
 use Rattle.lists.specs.Lists.{filter, elem, StandsBefore, without, count_below}
 use Rattle.tables.specs.declared.State.{State}
 use Rattle.tables.specs.declared.Thread.{Thread}
@@ -8,24 +8,20 @@ use Rattle.tables.specs.declared.LastAnswer.TheVariants.{Woken, TimedOut, Interr
 use Rattle.rules.specs.declared.event.Command.{Command}
 use Rattle.rules.specs.declared.event.Command.TheVariants.{Wait, WaitBitset}
 use Rattle.rules.specs.declared.event.Call.{Call}
-use Rattle.rules.specs.declared.event.Owning.{Owning}
-use Rattle.rules.specs.declared.event.OwnerWait.{OwnerWait as WaitOf}
-use Rattle.rules.specs.declared.event.OwnerRequeue.{OwnerRequeue as RequeueOf}
 use Rattle.rules.specs.declared.event.Event.{Event}
-use Rattle.rules.specs.declared.event.Event.TheVariants.{Call as CallEvent, Store, Clock, Interrupt, Query, SetPriority, OwnerWait, OwnerWake, OwnerRequeue, OwnerQuery}
+use Rattle.rules.specs.declared.event.Event.TheVariants.{Call as CallEvent, Store, Clock, Interrupt, Query, SetPriority}
 use Rattle.rules.specs.declared.answer.Reason.{Reason}
-use Rattle.rules.specs.declared.answer.Reason.TheVariants.{FirstCap, SecondCap, MaskZero, UaddrUnaligned, Uaddr2Unaligned, SameAddress, ClockBack, PriorityHigh, OwnWord}
+use Rattle.rules.specs.declared.answer.Reason.TheVariants.{FirstCap, SecondCap, MaskZero, UaddrUnaligned, Uaddr2Unaligned, SameAddress, ClockBack, PriorityHigh}
 use Rattle.rules.specs.declared.answer.Refusal.{Refusal}
 use Rattle.rules.specs.declared.answer.Answer.{Answer}
 use Rattle.rules.specs.declared.answer.Answer.TheVariants.{Count}
-use Rattle.tables.specs.Editions.{present}
-use Rattle.tables.specs.Sizes.{processes, threads_per_process, threads, word_bytes, bytes_per_process, memory_words, word_limit, max_cap, max_priority, no_owner}
-use Rattle.tables.specs.Tables.{expired, World, thread_number, process_of, index_of, is_owner, word_number, word_at, ended, thread_of, arrivals, queue, owner_of, waits_for, apart_in, tables_ok, moved_to, asleep_at, with_priority, with_owner}
+use Rattle.tables.specs.Sizes.{processes, threads_per_process, threads, word_bytes, bytes_per_process, memory_words, word_limit, max_cap, max_priority}
+use Rattle.tables.specs.Tables.{expired, World, thread_number, process_of, word_number, word_at, ended, thread_of, arrivals, queue, tables_ok, moved_to, asleep_at, with_priority}
 use Rattle.rules.specs.Answers.{Row, is_refused}
 use Rattle.rules.specs.Commands.{command_of, bit_set, clock_bit, uses}
-use Rattle.rules.specs.WakeOp.{new_word, compares}
-use Rattle.rules.specs.Calls.{is_wake_op, caller, old_word, plainly, owner_given, owner_left_in, left_by, timeout_given, deadline_of, mask_of, released, moved, released_second}
-use Rattle.rules.specs.Events.{naming, wait_like, wake_like, is_single, requeue_like, of_call, step}
+use Rattle.rules.specs.WakeOp.{new_word}
+use Rattle.rules.specs.Calls.{is_wake_op, caller, timeout_given, deadline_of, mask_of, released, moved, released_second}
+use Rattle.rules.specs.Events.{of_call, step}
 use Rattle.rules.specs.History.{final}
 
 -- Refusals: x is the error, with its reason, of the first row that applies.
@@ -38,46 +34,32 @@ abbrev pub Clear : List Row → Type 0
 Clear [] = Unit {0}
 Clear (r ∷ rs) = (r.applies ≡ false) × Clear rs
 
--- Event e is the call c, and says o of owners: a plain call, or one of the owner family that is like c.
-pub data Asks : Event → Call → Owning → Type 0 where
-  as_call : (c : Call) → Asks (CallEvent c) c plainly
-  as_owner_wait : (x : WaitOf) → Asks (OwnerWait x) (wait_like x) (naming x.owner false)
-  as_owner_wake : (p i a : ℕ) → Asks (OwnerWake p i a) (wake_like p i a) (naming no_owner true)
-  as_owner_requeue : (x : RequeueOf) → Asks (OwnerRequeue x) (requeue_like x) (naming x.owner (is_single x))
-
--- Event e is tested as the call c: it is that call, or "kind 9 tested as a wake".
-pub data TestedAs : Event → Call → Owning → Type 0 where
-  itself : {e : Event} {c : Call} {o : Owning} → Asks e c o → TestedAs e c o
-  as_wake : (p i a : ℕ) → TestedAs (OwnerQuery p i a) (wake_like p i a) plainly
-
 -- Reasons: what may be wrong with an event, in request (i)'s words, and the reason that says so.
 pub data Fault (w : World) : Reason → Event → Type 0 where
   -- "1 first cap"
-  first_cap : {e : Event} {c : Call} {o : Owning} → TestedAs e c o → (uses (command_of c.op)).cap ≡ true → max_cap < c.val → Fault w FirstCap e
+  first_cap : (c : Call) → (uses (command_of c.op)).cap ≡ true → max_cap < c.val → Fault w FirstCap (CallEvent c)
   -- "2 second cap"
-  second_cap : {e : Event} {c : Call} {o : Owning} → TestedAs e c o → (uses (command_of c.op)).second ≡ true → max_cap < c.timeout % word_limit → Fault w SecondCap e
+  second_cap : (c : Call) → (uses (command_of c.op)).second ≡ true → max_cap < c.timeout % word_limit → Fault w SecondCap (CallEvent c)
   -- "3 mask zero"
-  mask_zero : {e : Event} {c : Call} {o : Owning} → TestedAs e c o → (uses (command_of c.op)).mask ≡ true → c.val3 ≡ 0 → Fault w MaskZero e
+  mask_zero : (c : Call) → (uses (command_of c.op)).mask ≡ true → c.val3 ≡ 0 → Fault w MaskZero (CallEvent c)
   -- "4 uaddr not aligned (also a store's address)"
-  uaddr_unaligned : {e : Event} {c : Call} {o : Owning} → TestedAs e c o → (c.uaddr % word_bytes ≡ 0 → ⊥) → Fault w UaddrUnaligned e
+  uaddr_unaligned : (c : Call) → (c.uaddr % word_bytes ≡ 0 → ⊥) → Fault w UaddrUnaligned (CallEvent c)
   address_unaligned : (p a v : ℕ) → (a % word_bytes ≡ 0 → ⊥) → Fault w UaddrUnaligned (Store p a v)
   -- "5 uaddr2 not aligned"
-  uaddr2_unaligned : {e : Event} {c : Call} {o : Owning} → TestedAs e c o → (uses (command_of c.op)).second ≡ true → (c.uaddr2 % word_bytes ≡ 0 → ⊥) → Fault w Uaddr2Unaligned e
+  uaddr2_unaligned : (c : Call) → (uses (command_of c.op)).second ≡ true → (c.uaddr2 % word_bytes ≡ 0 → ⊥) → Fault w Uaddr2Unaligned (CallEvent c)
   -- "6 same address twice"
-  same_address : {e : Event} {c : Call} {o : Owning} → TestedAs e c o → (uses (command_of c.op)).moves ≡ true → c.uaddr ≡ c.uaddr2 → Fault w SameAddress e
+  same_address : (c : Call) → (uses (command_of c.op)).moves ≡ true → c.uaddr ≡ c.uaddr2 → Fault w SameAddress (CallEvent c)
   -- "7 clock went back"
   clock_back : (now : ℕ) → now < w.state.clock → Fault w ClockBack (Clock now)
   -- "-22 if above 31 (reason 8)"
   priority_high : (p i n : ℕ) → max_priority < n → Fault w PriorityHigh (SetPriority p i n)
-  -- "no operation may leave a thread both owner of a word and asleep there": t would be
-  own_word : {e : Event} {c : Call} {o : Owning} (t : ℕ) → TestedAs e c o → (thread_of (left_by c o w) t).waiting ≡ true → waits_for (left_by c o w) t ≡ index_of t → Fault w OwnWord e
 
 -- Waits: WAIT or WAIT_BITSET.
 abbrev pub IsWait : Command → Type 0
 IsWait k = (k ≡ Wait) ⊎ (k ≡ WaitBitset)
 
 -- "A wait sleeps exactly when no check refuses it, the word equals the expected number and its deadline, if any, is still ahead."
-pub record Sleeps (c : Call) (o : Owning) (w : World) : Type 0 where
+pub record Sleeps (c : Call) (w : World) : Type 0 where
   pub is_wait : IsWait (command_of c.op)
   -- no check refuses it: -6, -9, -3, -16, -38, -22, -14
   pub memory : length w.words ≡ memory_words
@@ -91,10 +73,6 @@ pub record Sleeps (c : Call) (o : Owning) (w : World) : Type 0 where
   pub inside : c.uaddr < bytes_per_process
   -- the word equals the expected number
   pub equal : word_at w c.process c.uaddr ≡ c.val
-  -- the owner that it names, if it names one, is an index or none
-  pub named : is_owner o.owner ≡ true
-  -- no thread would then be "both owner of a word and asleep there"
-  pub apart : apart_in present (left_by c o w) ≡ true
   -- its deadline, if any, is still ahead
   pub ahead : timeout_given c ≡ true → w.state.clock < deadline_of (command_of c.op) c w.state.clock
 
@@ -115,17 +93,13 @@ GoesBefore s u t =
     ((thread_of s t).priority < (thread_of s u).priority)
     ⊎ (((thread_of s u).priority ≡ (thread_of s t).priority) × StandsBefore u t (arrivals s))
 
--- a record, whatever the owner of the word
-abbrev pub but_owner : Thread → Thread
-but_owner r = with_owner no_owner r
-
 -- From s to u, the threads `out` ran with the answer a, the threads `on` went to the target and to the list's end, and every other
--- record, but for the owner of its word, and the order of every other entry are as they were.
+-- record and the order of every other entry are as they were.
 pub record Took (a : LastAnswer) (out on : List ℕ) (target : ℕ) (s u : State) : Type 0 where
   pub ran : (t : ℕ) → elem t out ≡ true → thread_of u t ≡ ended a (thread_of s t)
   -- mask, deadline and last answer are kept
-  pub went : (t : ℕ) → elem t on ≡ true → but_owner (thread_of u t) ≡ but_owner (moved_to target (thread_of s t))
-  pub stayed : (t : ℕ) → elem t out ≡ false → elem t on ≡ false → but_owner (thread_of u t) ≡ but_owner (thread_of s t)
+  pub went : (t : ℕ) → elem t on ≡ true → thread_of u t ≡ moved_to target (thread_of s t)
+  pub stayed : (t : ℕ) → elem t out ≡ false → elem t on ≡ false → thread_of u t ≡ thread_of s t
   pub order : arrivals u ≡ without on (without out (arrivals s)) ++ on
 
 -- What a call that is answered a count leaves: the clock too, and the words but for the one that WAKE_OP writes.
@@ -152,7 +126,7 @@ shifted_count w v = count_below threads (shifted w.state v.state)
 
 -- "where moves count": CMP_REQUEUE
 abbrev pub counts_moves : Event → Bool
-counts_moves e = of_call (λ c o. (uses (command_of c.op)).moves && (uses (command_of c.op)).compare) false e
+counts_moves e = of_call (λ c. (uses (command_of c.op)).moves && (uses (command_of c.op)).compare) false e
 
 -- the same sleepers at a word, in the same order and with the same records
 pub record SameSleepers (p a : ℕ) (s u : State) : Type 0 where
@@ -183,14 +157,14 @@ pub record PrioritySet (e : Event) (w : World) (t : ℕ) : Type 0 where
   pub left : after e w t ≡ with_priority priority (before w t)
 
 pub data Fate (e : Event) (w : World) (t : ℕ) : Type 0 where
-  -- its record is as it was, but for the owner of its word
-  stays : but_owner (after e w t) ≡ but_owner (before w t) → Fate e w t
+  -- its record is as it was
+  stays : after e w t ≡ before w t → Fate e w t
   -- it called a wait, and sleeps
-  sleeps : {c : Call} {o : Owning} → Asks e c o → t ≡ caller c → Sleeps c o w → but_owner (after e w t) ≡ but_owner (sleeps_by c w (before w t)) → Fate e w t
+  sleeps : (c : Call) → e ≡ CallEvent c → t ≡ caller c → Sleeps c w → after e w t ≡ sleeps_by c w (before w t) → Fate e w t
   -- a wake or requeue released it
-  wakes : {c : Call} {o : Owning} → Asks e c o → elem t (woken_by (command_of c.op) c w) ≡ true → after e w t ≡ ended Woken (before w t) → Fate e w t
+  wakes : (c : Call) → e ≡ CallEvent c → elem t (woken_by (command_of c.op) c w) ≡ true → after e w t ≡ ended Woken (before w t) → Fate e w t
   -- a requeue moved it
-  moves : {c : Call} {o : Owning} → Asks e c o → elem t (moved_by (command_of c.op) c w) ≡ true → but_owner (after e w t) ≡ but_owner (moved_to c.uaddr2 (before w t)) → Fate e w t
+  moves : (c : Call) → e ≡ CallEvent c → elem t (moved_by (command_of c.op) c w) ≡ true → after e w t ≡ moved_to c.uaddr2 (before w t) → Fate e w t
   -- the clock reached its deadline
   times_out : (now : ℕ) → e ≡ Clock now → expired now (before w t) ≡ true → after e w t ≡ ended TimedOut (before w t) → Fate e w t
   -- an interrupt named it
@@ -206,55 +180,12 @@ priority_by (Clock now) a t old = old
 priority_by (Interrupt p i) a t old = old
 priority_by (Query p) a t old = old
 priority_by (SetPriority p i n) a t old = cond (eqb t (thread_number p i) && not (is_refused a)) n old
-priority_by (OwnerWait x) a t old = old
-priority_by (OwnerWake p i x) a t old = old
-priority_by (OwnerRequeue x) a t old = old
-priority_by (OwnerQuery p i x) a t old = old
 
 -- the same of a history: the last that was set, and else the old one
 abbrev pub priority_after : List Event → List Answer → ℕ → ℕ → ℕ
 priority_after [] l t old = old
 priority_after (e ∷ es) [] t old = old
 priority_after (e ∷ es) (a ∷ l) t old = priority_after es l t (priority_by e a t old)
-
--- Owners: what a call that is not refused makes of the owner of the word at a of process p, if threads sleep there afterwards. A wait gives its
--- word, and a requeue its target, the owner that it names, or leaves them theirs; a wake or requeue leaves its first word none, or the thread that it
--- released; a WAKE_OP leaves its first word none, and its second if its comparison is true.
-abbrev pub owner_by_call : Call → Owning → World → ℕ → ℕ → ℕ
-owner_by_call c o w p a =
-    let k = command_of c.op in
-    let old = owner_of p a w.state in
-    cond (eqb p c.process)
-    (cond (eqb a c.uaddr2 && ((uses k).moves || is_wake_op k && compares c.val3 (old_word c w)))
-    (cond (uses k).moves (owner_given o old) no_owner)
-    (cond (eqb a c.uaddr)
-    (cond (uses k).deadline (owner_given o old) (cond (is_wake_op k) no_owner (owner_left_in present o (released k c w.state))))
-    old))
-    old
-
--- the same of any event: no other changes the owner of a word
-abbrev pub owner_by : Event → World → ℕ → ℕ → ℕ
-owner_by e w p a = of_call (λ c o. owner_by_call c o w p a) (owner_of p a w.state) e
-
--- nobody
-abbrev pub is_empty : List ℕ → Bool
-is_empty [] = true
-is_empty (t ∷ ts) = false
-
--- Event e is a call that names the word at a of process p.
-abbrev pub names_word : Event → ℕ → ℕ → Bool
-names_word e p a = of_call (λ c o. eqb p c.process && (eqb a c.uaddr || (uses (command_of c.op)).second && eqb a c.uaddr2)) false e
-
--- Who becomes owner: index n, of the word at a of process p, by event e.
-pub data BecomesOwner (p a n : ℕ) (e : Event) (w : World) : Type 0 where
-  -- a wait at the word names it
-  by_naming_wait : {c : Call} {o : Owning} → Asks e c o → IsWait (command_of c.op) → c.process ≡ p → c.uaddr ≡ a → o.names ≡ true → o.owner ≡ n → BecomesOwner p a n e w
-  -- a requeue to the word names it
-  by_naming_requeue : {c : Call} {o : Owning} → Asks e c o → (uses (command_of c.op)).moves ≡ true → c.process ≡ p → c.uaddr2 ≡ a → o.names ≡ true → o.owner ≡ n
-      → BecomesOwner p a n e w
-  -- a single-owner wake or requeue releases it from the word, and nobody else
-  by_release : {c : Call} {o : Owning} (t : ℕ) → Asks e c o → o.single ≡ true → c.process ≡ p → c.uaddr ≡ a → released (command_of c.op) c w.state ≡ t ∷ []
-      → index_of t ≡ n → BecomesOwner p a n e w
 
 -- No lost wake: thread t is asleep at address a of its process.
 abbrev pub asleep_there : ℕ → ℕ → World → Bool
@@ -263,8 +194,8 @@ asleep_there t a w = (thread_of w.state t).waiting && eqb (thread_of w.state t).
 -- How a thread can come to be asleep at an address: by a wait of its own that sleeps there, and so saw its number there, or by a
 -- requeue to that address that is answered a count, by a thread of its process.
 pub data Enters (t a : ℕ) (e : Event) (w : World) : Type 0 where
-  by_wait : {c : Call} {o : Owning} → Asks e c o → t ≡ caller c → c.uaddr ≡ a → Sleeps c o w → Enters t a e w
-  by_requeue : {c : Call} {o : Owning} (n : ℕ) → Asks e c o → (step e w).answer ≡ Count n → (uses (command_of c.op)).moves ≡ true
+  by_wait : (c : Call) → e ≡ CallEvent c → t ≡ caller c → c.uaddr ≡ a → Sleeps c w → Enters t a e w
+  by_requeue : (c : Call) (n : ℕ) → e ≡ CallEvent c → (step e w).answer ≡ Count n → (uses (command_of c.op)).moves ≡ true
       → c.process ≡ process_of t → c.uaddr2 ≡ a → elem t (moved (command_of c.op) c w.state) ≡ true → Enters t a e w
 
 -- asleep there before and after each event of the history
@@ -285,7 +216,5 @@ pub record Since (t a : ℕ) (h : List Event) (w : World) : Type 0 where
 pub record Alike (p : ℕ) (u v : World) : Type 0 where
   pub words : (a : ℕ) → a < bytes_per_process → word_at u p a ≡ word_at v p a
   pub records : (i : ℕ) → i < threads_per_process → thread_of u.state (thread_number p i) ≡ thread_of v.state (thread_number p i)
-  -- "demand 3 covers .. owners"
-  pub owners : (a : ℕ) → owner_of p a u.state ≡ owner_of p a v.state
   -- "the arrival list's threads of that process, in list order"
   pub order : filter (λ t. eqb (process_of t) p) (arrivals u.state) ≡ filter (λ t. eqb (process_of t) p) (arrivals v.state)

@@ -1,47 +1,22 @@
 -- "Other events", and what any event is answered and leaves.
-use Rattle.std.specs.Prelude.{Bool, true, false, not, cond, ◌||◌, List, [], ◌∷◌, ◌++◌, ℕ, suc, zero, ◌+◌, ◌*◌, ◌^◌, length, eqb, ltb}
+use Rattle.std.specs.Prelude.{Bool, true, false, not, cond, ◌||◌, List, [], ◌∷◌, ◌++◌, ℕ, suc, zero, ◌+◌, ◌*◌, ◌^◌, length, ltb}
 use Rattle.std.specs.Int.Count.{ones, count_trailing_zeros}
 use Rattle.lists.specs.Lists.{bit}
 use Rattle.tables.specs.declared.State.{State}
 use Rattle.tables.specs.declared.LastAnswer.TheVariants.{TimedOut, Interrupted}
 use Rattle.rules.specs.declared.event.Call.{Call}
-use Rattle.rules.specs.declared.event.Owning.{Owning}
-use Rattle.rules.specs.declared.event.OwnerWait.{OwnerWait as WaitOf}
-use Rattle.rules.specs.declared.event.OwnerRequeue.{OwnerRequeue as RequeueOf}
 use Rattle.rules.specs.declared.event.Event.{Event}
-use Rattle.rules.specs.declared.event.Event.TheVariants.{Call as CallEvent, Store, Clock, Interrupt, Query, SetPriority, OwnerWait, OwnerWake, OwnerRequeue, OwnerQuery}
+use Rattle.rules.specs.declared.event.Event.TheVariants.{Call as CallEvent, Store, Clock, Interrupt, Query, SetPriority}
 use Rattle.rules.specs.declared.answer.Errno.TheVariants.{ESRCH, EINVAL, EFAULT}
 use Rattle.rules.specs.declared.answer.Reason.TheVariants.{UaddrUnaligned, ClockBack, PriorityHigh}
 use Rattle.rules.specs.declared.answer.Panel.{Panel}
-use Rattle.rules.specs.declared.answer.Answer.TheVariants.{Count, Waiting, Owner}
+use Rattle.rules.specs.declared.answer.Answer.TheVariants.{Count, Waiting}
 use Rattle.tables.specs.Editions.{Edition, present}
-use Rattle.tables.specs.Sizes.{max_priority, match_any, no_owner}
-use Rattle.tables.specs.Tables.{outside, WorldIn, owner_in, expired_sleepers, thread_number_in, thread_of, aligned, tables_in, end_in, set_priority, write_word, with_clock, with_state}
+use Rattle.tables.specs.Sizes.{max_priority}
+use Rattle.tables.specs.Tables.{outside, WorldIn, expired_sleepers, thread_number_in, thread_of, word_at, aligned, tables_in, end_in, set_priority, write_word, with_clock, with_state}
 use Rattle.rules.specs.Answers.{Row, ◌because◌, ◌given◌, ◌when◌, first, OutcomeIn, outcome, judged}
 use Rattle.rules.specs.Commands.{command_of}
-use Rattle.rules.specs.Calls.{first_rows, no_process, no_thread_in, plainly, asked_rows, call_effect}
-
--- The owner family: "Tests and answers are as for the like plain calls". Each of its events but the query is such a call, and what it says of owners.
-
-abbrev pub naming : ℕ → Bool → Owning
-naming n single = record { names = true; owner = n; single = single }
-
--- owner wait: "absolute deadline", "its mask is all ones", as a WAIT_BITSET
-abbrev pub wait_like : WaitOf → Call
-wait_like x =
-    record { process = x.process; index = x.index; op = 9; uaddr = x.uaddr; val = x.val; flag = x.flag; timeout = x.deadline; uaddr2 = 0; val3 = match_any }
-
--- single-owner wake: "it takes one sleeper, who becomes owner if others still sleep there", as a WAKE
-abbrev pub wake_like : ℕ → ℕ → ℕ → Call
-wake_like p i a = record { process = p; index = i; op = 1; uaddr = a; val = 1; flag = 0; timeout = 0; uaddr2 = 0; val3 = 0 }
-
-abbrev pub is_single : RequeueOf → Bool
-is_single x = not (eqb x.single 0)
-
--- owner requeue: "kind 8 as CMP_REQUEUE"; "with the flag 1 the wake cap is ignored, one is released"
-abbrev pub requeue_like : RequeueOf → Call
-requeue_like x =
-    record { process = x.process; index = x.index; op = 4; uaddr = x.uaddr; val = cond (is_single x) 1 x.cap; flag = 0; timeout = x.cap2; uaddr2 = x.uaddr2; val3 = x.val }
+use Rattle.rules.specs.Calls.{first_rows, no_process, no_thread_in, caller_in, rows_in, call_effect}
 
 -- of a priority that is to be set: "Answers in order: -6, -9, -3, -22 if above 31 (reason 8), else 0."
 abbrev pub priority_rows_in : Edition → ℕ → ℕ → ℕ → List Row
@@ -52,7 +27,8 @@ priority_rows p i n = priority_rows_in present p i n
 
 -- The rows behind the first two, in the order of each event.
 abbrev pub own_rows : {ed : Edition} → Event → WorldIn ed → List Row
-own_rows (CallEvent c) w = asked_rows c plainly w
+own_rows {ed} (CallEvent c) w =
+    rows_in ed c (thread_of w.state (caller_in ed c)).waiting w.state.clock (word_at w c.process c.uaddr)
 -- "-6, -9, -3, -22 (not aligned), -14"; "4 uaddr not aligned (also a store's address)"
 own_rows (Store p a v) w = ESRCH when no_process p ∷ EINVAL because UaddrUnaligned given not (aligned a) ∷ EFAULT when outside a ∷ []
 -- "-6, -9, -22 if earlier than the clock"; "7 clock went back"
@@ -61,11 +37,6 @@ own_rows (Clock now) w = EINVAL because ClockBack given ltb now w.state.clock �
 own_rows {ed} (Interrupt p i) w = ESRCH when no_thread_in ed p i ∷ []
 own_rows (Query p) w = []
 own_rows {ed} (SetPriority p i n) w = priority_rows_in ed p i n
-own_rows (OwnerWait x) w = asked_rows (wait_like x) (naming x.owner false) w
-own_rows (OwnerWake p i a) w = asked_rows (wake_like p i a) (naming no_owner true) w
-own_rows (OwnerRequeue x) w = asked_rows (requeue_like x) (naming x.owner (is_single x)) w
--- "kind 9 tested as a wake"
-own_rows (OwnerQuery p i a) w = asked_rows (wake_like p i a) plainly w
 
 -- a panel query, which is always answered
 abbrev pub is_query : Event → Bool
@@ -75,23 +46,15 @@ is_query (Clock now) = false
 is_query (Interrupt p i) = false
 is_query (Query p) = true
 is_query (SetPriority p i n) = false
-is_query (OwnerWait x) = false
-is_query (OwnerWake p i a) = false
-is_query (OwnerRequeue x) = false
-is_query (OwnerQuery p i a) = false
 
--- what is asked of a call alone, with what it says of owners, and what is said of every other event
-abbrev pub of_call {ℓ} : {A : Type ℓ} → (Call → Owning → A) → A → Event → A
-of_call f other (CallEvent c) = f c plainly
+-- what is asked of a call alone, and what is said of every other event
+abbrev pub of_call {ℓ} : {A : Type ℓ} → (Call → A) → A → Event → A
+of_call f other (CallEvent c) = f c
 of_call f other (Store p a v) = other
 of_call f other (Clock now) = other
 of_call f other (Interrupt p i) = other
 of_call f other (Query p) = other
 of_call f other (SetPriority p i n) = other
-of_call f other (OwnerWait x) = f (wait_like x) (naming x.owner false)
-of_call f other (OwnerWake p i a) = f (wake_like p i a) (naming no_owner true)
-of_call f other (OwnerRequeue x) = f (requeue_like x) (naming x.owner (is_single x))
-of_call f other (OwnerQuery p i a) = other
 
 -- What each event may be refused with, in order.
 unfoldable pub refusals : {ed : Edition} → Event → WorldIn ed → List Row
@@ -136,13 +99,9 @@ panel_in ed p s = panel_of_in ed (cond (no_process p || not (tables_in ed s)) 0 
 abbrev pub panel : ℕ → State → Panel
 panel p s = panel_in present p s
 
--- what a call does that says this of owners
-abbrev pub performed : {ed : Edition} → Call → Owning → WorldIn ed → OutcomeIn ed
-performed c o w = call_effect (command_of c.op) c o w
-
 -- what an event does where nothing refuses it
 unfoldable pub effect : {ed : Edition} → Event → WorldIn ed → OutcomeIn ed
-effect (CallEvent c) w = performed c plainly w
+effect (CallEvent c) w = call_effect (command_of c.op) c w
 -- "0 and that word changed. It wakes nobody."
 effect (Store p a v) w = outcome (Count 0) (write_word p a v w)
 effect (Clock now) w = clock_effect now w
@@ -150,11 +109,6 @@ effect {ed} (Interrupt p i) w = interrupt_effect (thread_number_in ed p i) w
 effect {ed} (Query p) w = outcome (Waiting (panel_in ed p w.state)) w
 -- "Log kind 5 sets it .. It is allowed for a sleeper"
 effect {ed} (SetPriority p i n) w = outcome (Count 0) (with_state (set_priority n (thread_number_in ed p i) w.state) w)
-effect (OwnerWait x) w = performed (wait_like x) (naming x.owner false) w
-effect (OwnerWake p i a) w = performed (wake_like p i a) (naming no_owner true) w
-effect (OwnerRequeue x) w = performed (requeue_like x) (naming x.owner (is_single x)) w
--- "answers the index or 255"
-effect {ed} (OwnerQuery p i a) w = outcome (Owner (owner_in ed p a w.state)) w
 
 -- The kernel: what an event is answered, and the tables and words that it leaves.
 unfoldable pub step : {ed : Edition} → Event → WorldIn ed → OutcomeIn ed

@@ -2,7 +2,7 @@
 use Rattle.std.specs.Prelude.{Bool, true, false, cond, List, [], ◌∷◌, ℕ, eqb}
 use Rattle.lists.specs.Lists.{filter}
 use Rattle.rules.specs.declared.event.Event.{Event}
-use Rattle.rules.specs.declared.event.Event.TheVariants.{Call, Store, Clock, Interrupt, Query, SetPriority, OwnerWait, OwnerWake, OwnerRequeue, OwnerQuery}
+use Rattle.rules.specs.declared.event.Event.TheVariants.{Call, Store, Clock, Interrupt, Query, SetPriority}
 use Rattle.rules.specs.declared.answer.Answer.{Answer}
 use Rattle.tables.specs.Editions.{Edition, present}
 use Rattle.tables.specs.Tables.{WorldIn, World, fresh_in}
@@ -31,7 +31,7 @@ pub data Named : Type 0 where
   nobody : Named
 
 -- "A call, store, interrupt or panel query belongs to the process that it names. A clock event belongs to none"; of a priority that is set:
--- "It .. belongs to the named process."; "Kinds 6 to 9 belong to the process that they name"
+-- "It .. belongs to the named process."
 abbrev pub named : Event → Named
 named (Call c) = process c.process
 named (Store p a v) = process p
@@ -39,10 +39,6 @@ named (Clock now) = nobody
 named (Interrupt p i) = process p
 named (Query p) = process p
 named (SetPriority p i n) = process p
-named (OwnerWait x) = process x.process
-named (OwnerWake p i a) = process p
-named (OwnerRequeue x) = process x.process
-named (OwnerQuery p i a) = process p
 
 -- a clock event is the one that names nobody
 abbrev pub names_nobody : Named → Bool

@@ -1,20 +1,18 @@
 -- "Answers by number": the paper's tables with its own numbers, for every event, without the row for -12, which request (iii) takes out.
 -- `answers-by-number` (proofs/Theorems.antt) says that the rules answer so.
-use Rattle.std.specs.Prelude.{Bool, false, true, not, cond, ◌&&◌, ◌||◌, List, [], ◌∷◌, ℕ, ◌+◌, length, ltb, ℤ, pos, neg_ℤ}
+use Rattle.std.specs.Prelude.{Bool, not, cond, ◌&&◌, ◌||◌, List, [], ◌∷◌, ℕ, ◌+◌, length, ltb, ℤ, pos, neg_ℤ}
 use Rattle.std.specs.Int.Count.{ones, count_trailing_zeros}
 use Rattle.rules.specs.declared.event.Command.{Command}
 use Rattle.rules.specs.declared.event.Command.TheVariants.{Wait, Wake, Requeue, CmpRequeue, WakeOp, WaitBitset, WakeBitset, Unknown}
 use Rattle.rules.specs.declared.event.Call.{Call}
-use Rattle.rules.specs.declared.event.Owning.{Owning}
 use Rattle.rules.specs.declared.event.Event.{Event}
-use Rattle.rules.specs.declared.event.Event.TheVariants.{Call as CallEvent, Store, Clock, Interrupt, Query, SetPriority, OwnerWait, OwnerWake, OwnerRequeue, OwnerQuery}
-use Rattle.tables.specs.Sizes.{threads_per_process, max_priority, no_owner}
-use Rattle.tables.specs.Editions.{present}
-use Rattle.tables.specs.Tables.{World, thread_number, owner_of, thread_of, word_at, aligned, outside, expired_sleepers}
+use Rattle.rules.specs.declared.event.Event.TheVariants.{Call as CallEvent, Store, Clock, Interrupt, Query, SetPriority}
+use Rattle.tables.specs.Sizes.{threads_per_process, max_priority}
+use Rattle.tables.specs.Tables.{World, thread_number, thread_of, word_at, aligned, outside, expired_sleepers}
 use Rattle.rules.specs.Commands.{command_of, not_implemented}
 use Rattle.rules.specs.WakeOp.{undefined_op}
-use Rattle.rules.specs.Calls.{wrong_memory, broken_tables, no_process, no_thread, caller, bad_argument, bad_address, is_wake_op, differs, late, plainly, bad_owner_in, would_own, released, moved, released_second}
-use Rattle.rules.specs.Events.{naming, wait_like, wake_like, is_single, requeue_like, waiting_set}
+use Rattle.rules.specs.Calls.{wrong_memory, broken_tables, no_process, no_thread, caller, bad_argument, bad_address, is_wake_op, differs, late, released, moved, released_second}
+use Rattle.rules.specs.Events.{waiting_set}
 
 -- A row by its number: the error number negated where the row applies, and else what the rows below it give.
 abbrev pub refuse : ℕ → Bool → List ℤ → List ℤ
@@ -35,9 +33,9 @@ done Unknown c w = neg_ℤ (pos 38) ∷ []
 abbrev pub shown : ℕ → List ℤ
 shown waiting = pos waiting ∷ pos (ones waiting) ∷ pos (count_trailing_zeros threads_per_process waiting) ∷ []
 
--- The numbers of a call, and of what is tested as one; then what it is answered where no row applies.
-abbrev pub numbers_of_call : Call → Owning → World → List ℤ → List ℤ
-numbers_of_call c o w below = let k = command_of c.op in
+unfoldable pub numbers_of : Event → World → List ℤ
+-- "Tests come in this order; the first that applies answers."
+numbers_of (CallEvent c) w = let k = command_of c.op in
     refuse 6 (wrong_memory w)
     (refuse 9 (broken_tables w)
     (refuse 3 (no_thread c.process c.index)
@@ -47,17 +45,8 @@ numbers_of_call c o w below = let k = command_of c.op in
     (refuse 14 (bad_address k c)
     (refuse 38 (is_wake_op k && undefined_op c.val3)
     (refuse 11 (differs k c (word_at w c.process c.uaddr))
-    (refuse 3 (bad_owner_in present o)
-    (refuse 22 (would_own c o w)
     (refuse 110 (late k c w.state.clock)
-    below)))))))))))
-
-abbrev done_by : Call → Owning → World → List ℤ
-done_by c o w = numbers_of_call c o w (done (command_of c.op) c w)
-
-unfoldable pub numbers_of : Event → World → List ℤ
--- "Tests come in this order; the first that applies answers."
-numbers_of (CallEvent c) w = done_by c plainly w
+    (done k c w))))))))))
 -- "-6, -9, -3, -22 (not aligned), -14, else 0"
 numbers_of (Store p a v) w =
     refuse 6 (wrong_memory w)
@@ -87,8 +76,3 @@ numbers_of (SetPriority p i n) w =
     (refuse 3 (no_thread p i)
     (refuse 22 (ltb max_priority n)
     (pos 0 ∷ []))))
-numbers_of (OwnerWait x) w = done_by (wait_like x) (naming x.owner false) w
-numbers_of (OwnerWake p i a) w = done_by (wake_like p i a) (naming no_owner true) w
-numbers_of (OwnerRequeue x) w = done_by (requeue_like x) (naming x.owner (is_single x)) w
--- "kind 9 tested as a wake", "answers the index or 255"
-numbers_of (OwnerQuery p i a) w = numbers_of_call (wake_like p i a) plainly w (pos (owner_of p a w.state) ∷ [])

@@ -3,14 +3,14 @@
 use Rattle.std.specs.Prelude.{cond, List, [], ◌∷◌, ◌++◌, map, ℕ, suc, replicate, ℤ, eqb}
 use Rattle.tables.specs.declared.Thread.{Thread}
 use Rattle.rules.specs.declared.event.Event.{Event}
-use Rattle.rules.specs.declared.event.Event.TheVariants.{Clock, Interrupt, SetPriority, OwnerWake}
+use Rattle.rules.specs.declared.event.Event.TheVariants.{Clock, Interrupt, SetPriority}
 use Rattle.tables.specs.Sizes.{memory_words}
 use Rattle.tables.specs.Tables.{thread_of, arrivals}
 use Rattle.rules.specs.Answers.{Outcome, answer_numbers}
 use Rattle.rules.specs.Events.{step}
 use Rattle.rules.specs.Before.{step_by_arrival}
 use Rattle.rules.specs.History.{start, final}
-use Rattle.rules.specs.Cases.{address, other, waker, wait_for, wait_until, wait_mask, by_waker, owner_requeue, asleep, number, minus, told}
+use Rattle.rules.specs.Cases.{address, other, wait_for, wait_until, wait_mask, by_waker, asleep, number, minus, told}
 
 -- a thread's number, and its priority
 pub record Ranked : Type 0 where
@@ -95,11 +95,6 @@ choices =
     -- which may be one
     ∷ choice four (by_waker 5 address 1 1 address 0)
     (number 2, (0, address) ∷ (2, address) ∷ []) (number 2, (2, address) ∷ (3, address) ∷ [])
-    -- a single-owner wake, and an owner requeue with the flag 1
-    ∷ choice four (OwnerWake 0 waker address)
-    (number 1, (0, address) ∷ (2, address) ∷ (3, address) ∷ []) (number 1, (1, address) ∷ (2, address) ∷ (3, address) ∷ [])
-    ∷ choice four (owner_requeue 0 1 255 1)
-    (number 2, (0, address) ∷ (2, address) ∷ (3, other) ∷ []) (number 2, (2, address) ∷ (3, address) ∷ (1, other) ∷ [])
     ∷ []
 
 -- what a call is answered, and who sleeps on

@@ -48,7 +48,6 @@ pub enum Reason {
     SameAddress,
     ClockBack,
     PriorityHigh,
-    OwnWord,
 }
 
 impl Reason {
@@ -65,7 +64,6 @@ impl Reason {
             Reason::SameAddress => 6,
             Reason::ClockBack => 7,
             Reason::PriorityHigh => 8,
-            Reason::OwnWord => 9,
         }
     }
 }
@@ -98,7 +96,6 @@ pub enum Answer {
     Count(u32),
     Refused(Refusal),
     Waiting(Panel),
-    Owner(u8),
 }
 
 // What an event is answered, and the tables that it leaves.

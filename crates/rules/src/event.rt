@@ -1,4 +1,4 @@
-// What can happen to the kernel: calls, stores, clock events, interrupts, panel queries, set priorities and the calls of the owner family.
+// What can happen to the kernel: calls, stores, clock events, interrupts, panel queries and set priorities.
 
 // The commands of linux/futex.h that the kernel knows.
 #[derive(Drop)]
@@ -44,42 +44,6 @@ pub struct Call {
     pub val3: u32,
 }
 
-// A wait that names the owner of its word, 255 for none; the deadline is absolute, and flag says whether it is given.
-#[derive(Drop)]
-pub struct OwnerWait {
-    pub process: u8,
-    pub index: u8,
-    pub uaddr: u32,
-    pub val: u32,
-    pub flag: u8,
-    pub deadline: u64,
-    pub owner: u8,
-}
-
-// A requeue that names the owner of its target, uaddr2: cap and cap2 are how many it releases and moves at most. If single is not 0, cap is
-// ignored, and the one thread that it releases becomes the owner of the first word.
-#[derive(Drop)]
-pub struct OwnerRequeue {
-    pub process: u8,
-    pub index: u8,
-    pub uaddr: u32,
-    pub cap: u32,
-    pub val: u32,
-    pub uaddr2: u32,
-    pub cap2: u32,
-    pub owner: u8,
-    pub single: u8,
-}
-
-// What a call says of owners: whether it names the owner of the word at which threads sleep afterwards (255: none), and whether the thread
-// that it releases becomes the owner of the first word. A plain call does neither.
-#[derive(Drop)]
-pub struct Owning {
-    pub names: bool,
-    pub owner: u8,
-    pub single: bool,
-}
-
 #[derive(Drop)]
 pub enum Event {
     Call(Call),
@@ -102,17 +66,5 @@ pub enum Event {
         process: u8,
         index: u8,
         priority: u8,
-    },
-    OwnerWait(OwnerWait),
-    OwnerWake {
-        process: u8,
-        index: u8,
-        uaddr: u32,
-    },
-    OwnerRequeue(OwnerRequeue),
-    OwnerQuery {
-        process: u8,
-        index: u8,
-        uaddr: u32,
     },
 }

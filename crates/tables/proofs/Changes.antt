@@ -2,7 +2,7 @@
 use mathlib.Core.Path.{◌≡◌, refl, sym, ap, ◌∙◌}
 use mathlib.Core.Bool.{true, false, cond, or-true, or-false}
 use mathlib.Core.List.{List, [], ◌∷◌, ◌++◌}
-use Prim.Native.Nat.{ℕ, zero, suc, ◌+◌, ◌<◌, ◌-◌}
+use Prim.Native.Nat.{ℕ, ◌+◌, ◌<◌, ◌-◌}
 use native.Mathlib.Omega.{arith}
 use lib.ListN.{length, take, get_or, set, replicate, length-set, get_or-eq_default}
 use lib.Seq.{take-append_seam, get_or-set_same, get_or-set_other, ext_get_or}
@@ -20,21 +20,8 @@ use Rattle.tables.specs.declared.Change.{Change}
 use Rattle.tables.specs.declared.Change.TheVariants.{End, MoveTo}
 use Rattle.tables.specs.Sizes.{no_entry}
 use Rattle.tables.specs.Editions.{Edition, threads_in}
-use Rattle.tables.specs.Tables.{fresh_thread, thread_of, arrivals, change, ended, with_owner, with_arrivals, with_threads, end_in, move_in}
+use Rattle.tables.specs.Tables.{fresh_thread, arrivals, change, ended, with_arrivals, with_threads, end_in, move_in}
 use Rattle.tables.specs.Steps.{changed_by}
-
--- an element that is there, whatever stands for those that are not
-pub any_default : {A : Type 0} (l : List A) (i : ℕ) (d e : A) → i < length l → get_or l i d ≡ get_or l i e
-any_default [] i d e h = absurd (omega arith)
-any_default (x ∷ xs) zero d e h = refl
-any_default (x ∷ xs) (suc i) d e h = any_default xs i d e (omega arith)
-
--- what stands past the end of an array that code reads: all zeros, where thread_of has a record with no owner
-abbrev pub zeros : Thread
-zeros = with_owner 0 fresh_thread
-
-pub record_read : (s : State) (t : ℕ) → t < length s.threads → get_or s.threads t zeros ≡ thread_of s t
-record_read s t h = any_default s.threads t zeros fresh_thread h
 
 -- records
 pub length_change : (f : Thread → Thread) (ts : List ℕ) (rs : List Thread) → length (change f ts rs) ≡ length rs

@@ -1,4 +1,4 @@
--- Every change of the tables keeps the rules of list and records.
+-- Every change of the tables keeps the table rules.
 use mathlib.Core.Path.{◌≡◌, refl, ap, ◌∙◌}
 use mathlib.Core.Bool.{Bool, true, false, not, ◌&&◌}
 use mathlib.Core.List.{List, [], ◌∷◌, ◌++◌}
@@ -21,12 +21,12 @@ use Rattle.tables.proofs.Changes.{length_change, change_other, change_named}
 use Rattle.tables.proofs.Sound.{SoundIn, beyond, waiting_below, part_waits, fresh_ok, ended_ok, sleep_kept, priority_kept, sound_with}
 
 -- the records of ts changed by f, and a new arrival list
-unfoldable pub altered : Edition → (Thread → Thread) → List ℕ → List ℕ → State → State
+unfoldable altered : Edition → (Thread → Thread) → List ℕ → List ℕ → State → State
 altered ed f ts l s = with_arrivals ed l (with_threads (change f ts s.threads) s)
 
 -- The rules are kept where the changed records keep them and the list has the waiting threads.
 module _ (ed : Edition) (f : Thread → Thread) (ts l : List ℕ) (s : State) (size : length s.threads ≡ threads_in ed) where
-  pub altered_record : (P : Thread → Type 0) (t : ℕ) → (elem t ts ≡ true → threads_in ed ≤ t → P fresh_thread)
+  altered_record : (P : Thread → Type 0) (t : ℕ) → (elem t ts ≡ true → threads_in ed ≤ t → P fresh_thread)
       → (elem t ts ≡ true → P (f (thread_of s t))) → (elem t ts ≡ false → P (thread_of s t)) → P (thread_of (altered ed f ts l s) t)
   unfolding altered
   altered_record P t beyond named other = cases (elem t ts)

@@ -1,5 +1,4 @@
--- The rules of list and records as facts: tables pass the test exactly when the facts hold, and the fresh tables have them. The rules of owners stand
--- in Owners.antt.
+-- The table rules as facts: tables pass the test exactly when the facts hold, and the fresh tables have them.
 use mathlib.Core.Path.{◌≡◌, refl, sym, ap, ◌∙◌}
 use mathlib.Core.Bool.{true, false, not, ◌&&◌, beq}
 use mathlib.Core.List.{List, ◌∷◌, ◌++◌}
@@ -19,10 +18,10 @@ use Rattle.tables.specs.declared.Thread.{Thread}
 use Rattle.tables.specs.declared.LastAnswer.{LastAnswer}
 use Rattle.tables.specs.Sizes.{bytes_per_process, no_entry}
 use Rattle.tables.specs.Editions.{Edition, present, threads_in}
-use Rattle.tables.specs.Tables.{fresh_thread, ended, thread_of, arrivals, expired, aligned, sleep_ok, priority_ok, record_ok, sizes_ok, count_ok, numbers_ok, exact_ok, tail_ok, records_ok, list_in, owners_ok, agree_in, apart_in, tables_in, fresh_in, with_arrivals}
+use Rattle.tables.specs.Tables.{fresh_thread, ended, thread_of, arrivals, expired, aligned, sleep_ok, priority_ok, record_ok, sizes_ok, count_ok, numbers_ok, exact_ok, tail_ok, records_ok, tables_in, fresh_in, with_arrivals}
 use Rattle.tables.proofs.Changes.{arrivals_with}
 
--- The rules of list and records as facts. That the entries are all different and exactly the waiting threads is one equation for each number.
+-- The table rules as facts. That the entries are all different and exactly the waiting threads is one equation for each number.
 pub record SoundIn (ed : Edition) (s : State) : Type 0 where
   pub records : length s.threads ≡ threads_in ed
   pub stored : s.list ≡ pad_to (threads_in ed) no_entry (arrivals s)
@@ -116,9 +115,9 @@ module _ {ed : Edition} (s : State) (g : SoundIn ed s) where
   pub few : s.count ≤ threads_in ed
   few = omega (arith, g.counted, arrivals_fit)
 
-  pub sound_list : list_in ed s ≡ true
-  unfolding list_in
-  sound_list =
+  pub sound_tables : tables_in ed s ≡ true
+  unfolding tables_in
+  sound_tables =
       and_intro (and_intro (and_intro (and_intro (and_intro (and_intro
       (and_intro (eq-eqb (length s.threads) (threads_in ed) g.records) (eq-eqb (length s.list) (threads_in ed) entries))
       (le-leb s.count (threads_in ed) few))
@@ -141,8 +140,8 @@ record Rules (ed : Edition) (s : State) : Type 0 where
   tail : tail_ok s ≡ true
   kept : records_ok s ≡ true
 
-rules_of : (ed : Edition) (s : State) → list_in ed s ≡ true → Rules ed s
-unfolding list_in
+rules_of : (ed : Edition) (s : State) → tables_in ed s ≡ true → Rules ed s
+unfolding tables_in
 rules_of ed s h =
     let h5 = and_left (sizes_ok ed s && count_ok ed s && numbers_ok ed s && distinct (arrivals s) && exact_ok ed s && tail_ok s) (records_ok s) h in
     let h4 = and_left (sizes_ok ed s && count_ok ed s && numbers_ok ed s && distinct (arrivals s) && exact_ok ed s) (tail_ok s) h5 in
@@ -202,14 +201,8 @@ module _ {ed : Edition} (s : State) (r : Rules ed s) where
         exact = listed_exactly;
       }
 
-pub list_sound : (ed : Edition) (s : State) → list_in ed s ≡ true → SoundIn ed s
-list_sound ed s h = rules_sound s (rules_of ed s h)
-
 pub sound_in : (ed : Edition) (s : State) → tables_in ed s ≡ true → SoundIn ed s
-unfolding tables_in
-sound_in ed s h =
-    let h2 = and_left (list_in ed s && owners_ok ed s && agree_in ed s) (apart_in ed s) h in
-    list_sound ed s (and_left (list_in ed s) (owners_ok ed s) (and_left (list_in ed s && owners_ok ed s) (agree_in ed s) h2))
+sound_in ed s h = rules_sound s (rules_of ed s h)
 
 pub tables_sound : (s : State) → tables_in present s ≡ true → Sound s
 tables_sound = sound_in present

@@ -1,6 +1,6 @@
 -- The arrival list as it is stored: it names threads, and what is split off it and joined to it is what the changes leave.
 use mathlib.Core.Path.{◌≡◌, refl, sym, ap, ◌∙◌, subst₂}
-use mathlib.Core.Bool.{Bool, true, false, not, cond}
+use mathlib.Core.Bool.{Bool, true, false, not}
 use mathlib.Core.List.{List, [], ◌∷◌, ◌++◌, append-nil}
 use Prim.Native.Nat.{ℕ, ◌+◌, ◌-◌, ◌≤◌, ◌<◌}
 use native.Mathlib.Omega.{arith}
@@ -23,9 +23,8 @@ use Rattle.arrivals.specs.Arrivals.{Listed}
 use Rattle.arrivals.proofs.Places.{length_without}
 use Rattle.tables.specs.Sizes.{threads, no_entry}
 use Rattle.tables.specs.Editions.{present}
-use Rattle.tables.specs.Tables.{fresh_thread, thread_of, arrivals, at_word, change, with_threads, ended, moved_to, with_priority, with_owner, end_in, end_sleeps, move_in, move_sleeps, sleep_in, fall_asleep, set_priority, set_owner_in, set_owner, asleep_at}
+use Rattle.tables.specs.Tables.{fresh_thread, thread_of, arrivals, change, with_threads, ended, moved_to, with_priority, end_in, end_sleeps, move_in, move_sleeps, sleep_in, fall_asleep, set_priority, asleep_at}
 use Rattle.tables.specs.Steps.{changed_by, Numbers, Flags, flagged, split_of, end_flagged, Taking}
-use Rattle.tables.proofs.Updating.{update_first, update_none, update_next, update_all}
 use Rattle.tables.proofs.Changes.{arrivals_end, change_none, change_one}
 use Rattle.tables.proofs.Sound.{Sound, listed_below, all_low, once, arrivals_fit, few, room}
 
@@ -162,27 +161,6 @@ unfolding set_priority
 sets_priority n t s new size low is =
     ap (λ rs. with_threads rs s)
     (ap (set s.threads t) is ∙ sym (change_one (with_priority n) (λ r. refl) s.threads t fresh_thread (omega arith)))
-
--- A loop that sets a word's owner has gone through the first n records.
-abbrev pub owned_at : ℕ → ℕ → ℕ → ℕ → Thread → Thread
-owned_at p a o t r = cond (at_word present p a t r) (with_owner o r) r
-
-pub record Owning (p a o : ℕ) (s₀ s : State) (n : ℕ) : Type 0 where
-  pub within : n ≤ threads
-  pub done : s ≡ with_threads (update_first (owned_at p a o) s₀.threads n) s₀
-
-module _ (p a o : ℕ) (s₀ : State) (size : length s₀.threads ≡ threads) where
-  pub owning_start : Owning p a o s₀ s₀ 0
-  owning_start = record { within = omega arith; done = ap (λ rs. with_threads rs s₀) (sym (update_none (owned_at p a o) s₀.threads)) }
-
-  pub owning_next : (s : State) (n : ℕ) (new d : Thread) → Owning p a o s₀ s n → n < threads → new ≡ owned_at p a o n (get_or s.threads n d)
-      → Owning p a o s₀ (with_threads (set s.threads n new) s) (n + 1)
-  owning_next s n new d g more is =
-      record { within = omega arith; done = cc (g.done, update_next (owned_at p a o) s₀.threads n d (omega arith)) }
-
-  pub owning_all : (s : State) (n : ℕ) → Owning p a o s₀ s n → threads ≤ n → s ≡ set_owner p a o s₀
-  unfolding set_owner_in
-  owning_all s n g end = g.done ∙ ap (λ rs. with_threads rs s₀) (update_all (owned_at p a o) s₀.threads n (omega arith))
 
 -- tables that keep the rules are as they would be stored, so that ending nobody's sleep changes nothing
 pub end_nobody : (a : LastAnswer) (s : State) → Sound s → end_sleeps a [] s ≡ s

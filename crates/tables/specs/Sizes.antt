@@ -35,10 +35,6 @@ match_any = word_limit - 1
 abbrev pub max_priority : ℕ
 max_priority = 31
 
--- "owner (255 for none)"
-abbrev pub no_owner : ℕ
-no_owner = 255
-
 -- the largest wake cap or second cap: -22 if "above 2147483647"
 abbrev pub max_cap : ℕ
 max_cap = 2147483647

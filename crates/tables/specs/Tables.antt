@@ -1,5 +1,5 @@
 -- "The tables": what the kernel keeps, the rules that sound tables keep, and the changes that events make to them.
-use Rattle.std.specs.Prelude.{Bool, true, false, not, cond, ◌&&◌, ◌||◌, List, [], ◌∷◌, ◌++◌, ℕ, ◌+◌, ◌*◌, ◌/◌, ◌%◌, length, take, drop, get_or, set, replicate, eqb, leb, ltb}
+use Rattle.std.specs.Prelude.{Bool, true, false, not, cond, ◌&&◌, List, [], ◌∷◌, ◌++◌, ℕ, ◌+◌, ◌*◌, ◌/◌, ◌%◌, length, take, drop, get_or, set, replicate, eqb, leb, ltb}
 use Rattle.std.specs.Bool.{beq}
 use Rattle.std.specs.Int.Bits.{bit_and}
 use Rattle.lists.specs.Lists.{filter, all, update, pad_to, elem, without, distinct, every_below}
@@ -7,7 +7,7 @@ use Rattle.tables.specs.declared.State.{State}
 use Rattle.tables.specs.declared.Thread.{Thread}
 use Rattle.tables.specs.declared.LastAnswer.{LastAnswer}
 use Rattle.tables.specs.declared.LastAnswer.TheVariants.{NoneYet}
-use Rattle.tables.specs.Sizes.{words_per_process, word_bytes, bytes_per_process, no_entry, max_priority, no_owner}
+use Rattle.tables.specs.Sizes.{words_per_process, word_bytes, bytes_per_process, no_entry, max_priority}
 use Rattle.tables.specs.Editions.{Edition, present, threads_in}
 
 -- The tables and the lent words, which the kernel is handed with each event, under an edition of the rules.
@@ -35,13 +35,6 @@ process_in ed t = t / ed.per_process
 abbrev pub process_of : ℕ → ℕ
 process_of t = process_in present t
 
--- a thread's index in its process
-abbrev pub index_in : Edition → ℕ → ℕ
-index_in ed t = t % ed.per_process
-
-abbrev pub index_of : ℕ → ℕ
-index_of t = index_in present t
-
 -- "the word at address a of process p is word 1024p + a/4 of the lent memory"
 abbrev pub word_number : ℕ → ℕ → ℕ
 word_number p a = words_per_process * p + a / word_bytes
@@ -49,10 +42,9 @@ word_number p a = words_per_process * p + a / word_bytes
 abbrev pub word_at : {ed : Edition} → WorldIn ed → ℕ → ℕ → ℕ
 word_at w p a = get_or w.words (word_number p a) 0
 
--- A thread's record at the start: "all running, last answers 1"; "a base priority, 0 to 31, 0 at the start". A running thread sleeps at no word,
--- so its record has no word's owner.
+-- A thread's record at the start: "all running, last answers 1"; "a base priority, 0 to 31, 0 at the start".
 abbrev pub fresh_thread : Thread
-fresh_thread = record { waiting = false; uaddr = 0; bitset = 0; timed = false; deadline = 0; last = NoneYet; priority = 0; owner = no_owner }
+fresh_thread = record { waiting = false; uaddr = 0; bitset = 0; timed = false; deadline = 0; last = NoneYet; priority = 0 }
 
 abbrev pub thread_of : State → ℕ → Thread
 thread_of s t = get_or s.threads t fresh_thread
@@ -61,12 +53,8 @@ thread_of s t = get_or s.threads t fresh_thread
 abbrev pub arrivals : State → List ℕ
 arrivals s = take s.count s.list
 
--- thread t, whose record is r, sleeps at address a of process p
-abbrev pub at_word : Edition → ℕ → ℕ → ℕ → Thread → Bool
-at_word ed p a t r = eqb (process_in ed t) p && (r.waiting && eqb r.uaddr a)
-
 abbrev pub sleeps_in : Edition → ℕ → ℕ → State → ℕ → Bool
-sleeps_in ed p a s t = at_word ed p a t (thread_of s t)
+sleeps_in ed p a s t = eqb (process_in ed t) p && ((thread_of s t).waiting && eqb (thread_of s t).uaddr a)
 
 abbrev pub sleeps_at : ℕ → ℕ → State → ℕ → Bool
 sleeps_at p a s t = sleeps_in present p a s t
@@ -77,24 +65,6 @@ queue_in ed p a s = filter (sleeps_in ed p a s) (arrivals s)
 
 abbrev pub queue : ℕ → ℕ → State → List ℕ
 queue p a s = queue_in present p a s
-
--- "A word has an owner index or none; a word with no sleepers has none." The owner stands in the record of each of its sleepers.
-abbrev pub owner_among : State → List ℕ → ℕ
-owner_among s [] = no_owner
-owner_among s (t ∷ ts) = (thread_of s t).owner
-
-unfoldable pub owner_in : Edition → ℕ → ℕ → State → ℕ
-owner_in ed p a s = owner_among s (queue_in ed p a s)
-
-abbrev pub owner_of : ℕ → ℕ → State → ℕ
-owner_of p a s = owner_in present p a s
-
--- whom a sleeper waits for: the owner of its word
-unfoldable pub waits_for_in : Edition → State → ℕ → ℕ
-waits_for_in ed s t = owner_in ed (process_in ed t) (thread_of s t).uaddr s
-
-abbrev pub waits_for : State → ℕ → ℕ
-waits_for s t = waits_for_in present s t
 
 -- The table rules, in the paper's order.
 
@@ -130,9 +100,9 @@ aligned a = eqb (a % word_bytes) 0
 abbrev pub outside : ℕ → Bool
 outside a = leb bytes_per_process a
 
--- "a running record has the zeros named above", and no owner
+-- "a running record has the zeros named above"
 abbrev pub running_ok : Thread → Bool
-running_ok r = eqb r.uaddr 0 && eqb r.bitset 0 && not r.timed && eqb r.deadline 0 && eqb r.owner no_owner
+running_ok r = eqb r.uaddr 0 && eqb r.bitset 0 && not r.timed && eqb r.deadline 0
 
 -- "either no deadline with 0 stored or a deadline above the clock"
 abbrev pub deadline_ok : ℕ → Thread → Bool
@@ -156,36 +126,10 @@ record_ok now r = sleep_ok now r && priority_ok r
 abbrev pub records_ok : State → Bool
 records_ok s = all (record_ok s.clock) s.threads
 
--- the rules of the list and of each record
-unfoldable pub list_in : Edition → State → Bool
-list_in ed s =
-    sizes_ok ed s && count_ok ed s && numbers_ok ed s && distinct_ok s && exact_ok ed s && tail_ok s && records_ok s
-
-abbrev pub is_owner_in : Edition → ℕ → Bool
-is_owner_in ed o = ltb o ed.per_process || eqb o no_owner
-
-abbrev pub is_owner : ℕ → Bool
-is_owner o = is_owner_in present o
-
--- "each owner is an index or none"
-abbrev pub owners_ok : Edition → State → Bool
-owners_ok ed s = all (λ r. is_owner_in ed r.owner) s.threads
-
--- every sleeper passes the test
-unfoldable pub every_sleeper : Edition → State → (ℕ → Bool) → Bool
-every_sleeper ed s f = every_below (threads_in ed) (λ t. not (thread_of s t).waiting || f t)
-
--- each sleeper's record has its word's owner
-unfoldable pub agree_in : Edition → State → Bool
-agree_in ed s = every_sleeper ed s (λ t. eqb (thread_of s t).owner (waits_for_in ed s t))
-
--- "none asleep on its own word"
-unfoldable pub apart_in : Edition → State → Bool
-apart_in ed s = every_sleeper ed s (λ t. not (eqb (waits_for_in ed s t) (index_in ed t)))
-
--- "Table rules". "no owner without sleepers" is the first line of ownerAmong: a word that loses its last sleeper has no owner.
+-- "Table rules"
 unfoldable pub tables_in : Edition → State → Bool
-tables_in ed s = list_in ed s && owners_ok ed s && agree_in ed s && apart_in ed s
+tables_in ed s =
+    sizes_ok ed s && count_ok ed s && numbers_ok ed s && distinct_ok s && exact_ok ed s && tail_ok s && records_ok s
 
 abbrev pub tables_ok : State → Bool
 tables_ok s = tables_in present s
@@ -223,23 +167,19 @@ with_arrivals ed l s = record { clock = s.clock; threads = s.threads; list = pad
 abbrev pub with_clock : ℕ → State → State
 with_clock now s = record { clock = now; threads = s.threads; list = s.list; count = s.count }
 
--- A record with another sleep, one with another last answer, one with another priority and one with another owner. What they do not name is
--- kept: each change of a record is made of these four, so that a field that is added later is kept by all of them.
+-- A record with another sleep, one with another last answer, and one with another priority. What they do not name is kept: each change of
+-- a record is made of these three, so that a field that is added later is kept by all of them.
 abbrev pub with_sleep : Bool → ℕ → ℕ → Bool → ℕ → Thread → Thread
 with_sleep waiting a m timed due r =
-    record { waiting = waiting; uaddr = a; bitset = m; timed = timed; deadline = due; last = r.last; priority = r.priority; owner = r.owner }
+    record { waiting = waiting; uaddr = a; bitset = m; timed = timed; deadline = due; last = r.last; priority = r.priority }
 
 abbrev pub with_last : LastAnswer → Thread → Thread
 with_last a r =
-    record { waiting = r.waiting; uaddr = r.uaddr; bitset = r.bitset; timed = r.timed; deadline = r.deadline; last = a; priority = r.priority; owner = r.owner }
+    record { waiting = r.waiting; uaddr = r.uaddr; bitset = r.bitset; timed = r.timed; deadline = r.deadline; last = a; priority = r.priority }
 
 abbrev pub with_priority : ℕ → Thread → Thread
 with_priority n r =
-    record { waiting = r.waiting; uaddr = r.uaddr; bitset = r.bitset; timed = r.timed; deadline = r.deadline; last = r.last; priority = n; owner = r.owner }
-
-abbrev pub with_owner : ℕ → Thread → Thread
-with_owner o r =
-    record { waiting = r.waiting; uaddr = r.uaddr; bitset = r.bitset; timed = r.timed; deadline = r.deadline; last = r.last; priority = r.priority; owner = o }
+    record { waiting = r.waiting; uaddr = r.uaddr; bitset = r.bitset; timed = r.timed; deadline = r.deadline; last = r.last; priority = n }
 
 -- the records of the threads ts changed by f, the others as they were
 unfoldable pub change : (Thread → Thread) → List ℕ → List Thread → List Thread
@@ -247,7 +187,7 @@ change f ts rs = update (λ t r. cond (elem t ts) (f r) r) rs
 
 -- "A running thread has zeros for address, mask and deadline, and no deadline."
 abbrev pub ended : LastAnswer → Thread → Thread
-ended a r = with_last a (with_owner no_owner (with_sleep false 0 0 false 0 r))
+ended a r = with_last a (with_sleep false 0 0 false 0 r)
 
 -- "A released thread leaves the list, runs, and has last answer 0. A sleeper ended by the clock or an interrupt leaves
 -- the list and runs likewise, with its own last answer. Whatever ends or moves, the other entries keep their order."
@@ -286,13 +226,6 @@ fall_asleep f t s = sleep_in present f t s
 -- "Log kind 5 sets it"
 unfoldable pub set_priority : ℕ → ℕ → State → State
 set_priority n t s = with_threads (change (with_priority n) (t ∷ []) s.threads) s
-
--- A word's owner set, "if threads then sleep there". No other definition gives a word an owner.
-unfoldable pub set_owner_in : Edition → ℕ → ℕ → ℕ → State → State
-set_owner_in ed p a o s = with_threads (update (λ t r. cond (at_word ed p a t r) (with_owner o r) r) s.threads) s
-
-abbrev pub set_owner : ℕ → ℕ → ℕ → State → State
-set_owner p a o s = set_owner_in present p a o s
 
 -- one word of a process written
 unfoldable pub write_word : {ed : Edition} → ℕ → ℕ → ℕ → WorldIn ed → WorldIn ed

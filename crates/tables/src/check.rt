@@ -1,10 +1,10 @@
-// The table rules, in one pass over the list, one over the records and one over their owners.
-ghost use Rattle.std.specs.Prelude.{◌≡◌, ◌&&◌, ◌<◌, eqb};
+// The table rules, in one pass over the list and one over the records.
+ghost use Rattle.std.specs.Prelude.{◌≡◌, ◌&&◌, eqb};
 ghost use Rattle.std.specs.Bool.{beq};
 ghost use Rattle.lists.specs.Lists.{every_below, count_below};
 ghost use Rattle.tables.specs.Sizes.{threads};
-ghost use Rattle.tables.specs.Tables.{thread_of, is_owner, sleep_ok, record_ok, records_ok, tables_ok};
-ghost use Rattle.tables.specs.Steps.{placed, agrees_at, owners_agree};
+ghost use Rattle.tables.specs.Tables.{thread_of, sleep_ok, record_ok, records_ok, tables_ok};
+ghost use Rattle.tables.specs.Steps.{placed};
 
 use crate::{MAX_PRIORITY, PROCESS_BYTES, State, THREADS, Thread, WORD_BYTES};
 use arrivals::{one_if, places_in, tail_ok};
@@ -17,11 +17,7 @@ fn sleep_ok(t: Thread, now: u64) -> bool
         let ahead = t.timed & (now < t.deadline);
         (t.uaddr % WORD_BYTES == 0) & (t.uaddr < PROCESS_BYTES) & (t.bitset != 0) & (none | ahead)
     } else {
-        (t.uaddr == 0)
-            & (t.bitset == 0)
-            & !t.timed
-            & (t.deadline == 0)
-            & (t.owner == State::NO_OWNER)
+        (t.uaddr == 0) & (t.bitset == 0) & !t.timed & (t.deadline == 0)
     }
 }
 
@@ -30,49 +26,6 @@ fn record_ok(t: Thread, now: u64) -> bool
 {
     let sleep = sleep_ok(t, now);
     sleep & (t.priority <= MAX_PRIORITY)
-}
-
-// An index or none.
-fn owner_ok(owner: u8) -> bool
-    ensures { result ≡ is_owner owner }
-{
-    ((owner as usize) < State::THREADS_PER_PROCESS) | (owner == State::NO_OWNER)
-}
-
-// Every sleeper of the word at which thread t sleeps has the owner that t has.
-fn agrees(s: State, t: usize) -> bool
-    requires { t < threads }
-    ensures { result ≡ agrees_at s t }
-{
-    let own = s.threads[t];
-    let process = t / State::THREADS_PER_PROCESS;
-    let mut ok = true;
-    let mut i: usize = 0;
-    while i < THREADS {
-        let u = s.threads[i];
-        let here = (i / State::THREADS_PER_PROCESS == process)
-            & (u.waiting & (u.uaddr == own.uaddr));
-        ok = ok & (!here | (u.owner == own.owner));
-        i += 1;
-    }
-    ok
-}
-
-// Each owner is an index or none, the sleepers of a word have one owner, and none is asleep on its own word.
-fn owners_ok(s: State) -> bool
-    ensures { result ≡ owners_agree s }
-{
-    let mut ok = true;
-    let mut i: usize = 0;
-    while i < THREADS {
-        let t = s.threads[i];
-        let good = owner_ok(t.owner);
-        let same = agrees(s, i);
-        let apart = (t.owner as usize) != i % State::THREADS_PER_PROCESS;
-        ok = ok & (good & (!t.waiting | (same & apart)));
-        i += 1;
-    }
-    ok
 }
 
 // The records keep their rules, those wait that have a place in the list, and as many as the list counts.
@@ -106,6 +59,5 @@ pub fn tables_ok(s: State) -> bool
     let tail = tail_ok(list, s.count);
     let place = found.place;
     let records = records_ok(s, place);
-    let owners = owners_ok(s);
-    found.low & tail & records & owners
+    found.low & tail & records
 }

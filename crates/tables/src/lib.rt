@@ -1,7 +1,7 @@
 // Tables: what the kernel keeps, a clock, a record for each thread and the arrival list with its count; their rules and changes. It stands on arrivals.
-ghost use Rattle.std.specs.Prelude.{◌≡◌, true, false, cond, ◌+◌, ◌<◌, take, drop};
+ghost use Rattle.std.specs.Prelude.{◌≡◌, true, false, ◌+◌, ◌<◌, take, drop};
 ghost use Rattle.tables.specs.Sizes.{threads};
-ghost use Rattle.tables.specs.Tables.{fresh_thread, stored_deadline, with_sleep, with_last, ended, moved_to, with_priority, with_owner, asleep_at, expired, thread_of, fresh, change, with_threads, fall_asleep, end_sleeps, move_sleeps, set_priority, set_owner, tables_ok};
+ghost use Rattle.tables.specs.Tables.{fresh_thread, stored_deadline, with_sleep, with_last, ended, moved_to, with_priority, asleep_at, expired, thread_of, fresh, change, with_threads, fall_asleep, end_sleeps, move_sleeps, set_priority, tables_ok};
 ghost use Rattle.tables.specs.Steps.{changed_by, Numbers, Flags, flagged, end_flagged, Taking};
 
 pub mod check;
@@ -29,7 +29,7 @@ pub enum LastAnswer {
 }
 
 // A thread record: running or waiting; the word's address, the waiter's mask, whether it has a deadline and the deadline; the answer of
-// its last ended sleep; its base priority; and the owner of the word at which it sleeps, NO_OWNER where there is none.
+// its last ended sleep; and its base priority.
 #[derive(Drop)]
 pub struct Thread {
     pub waiting: bool,
@@ -39,7 +39,6 @@ pub struct Thread {
     pub deadline: u64,
     pub last: LastAnswer,
     pub priority: u8,
-    pub owner: u8,
 }
 
 // The tables: a clock in nanoseconds, a record for each thread, and the arrival list with its count.
@@ -77,7 +76,6 @@ impl Thread {
             deadline: 0,
             last: LastAnswer::NoneYet,
             priority: 0,
-            owner: State::NO_OWNER,
         }
     }
 
@@ -112,7 +110,6 @@ impl Thread {
             deadline: self.deadline,
             last: last,
             priority: self.priority,
-            owner: self.owner,
         }
     }
 
@@ -123,26 +120,11 @@ impl Thread {
         self
     }
 
-    fn with_owner(mut self, owner: u8) -> Self
-        ensures { result ≡ with_owner owner self }
-    {
-        self.owner = owner;
-        self
-    }
-
-    fn owned_if(self, here: bool, owner: u8) -> Self
-        ensures { result ≡ cond here (with_owner owner self) self }
-    {
-        if here { self.with_owner(owner) } else { self }
-    }
-
     // The sleep is over, with this answer.
     fn ended(self, last: LastAnswer) -> Self
         ensures { result ≡ ended last self }
     {
-        self.with_sleep(false, 0, 0, false, 0)
-            .with_owner(State::NO_OWNER)
-            .with_last(last)
+        self.with_sleep(false, 0, 0, false, 0).with_last(last)
     }
 
     fn moved_to(mut self, to: u32) -> Self
@@ -190,9 +172,6 @@ impl State {
 
     // The entry of the arrival list that names no thread.
     pub const NO_ENTRY: u8 = arrivals::NO_ENTRY;
-
-    // What stands for the owner of a word that has none.
-    pub const NO_OWNER: u8 = 255;
 
     pub fn fresh() -> Self
         ensures { result ≡ fresh }
@@ -293,21 +272,6 @@ impl State {
         let old = self.threads[t];
         let new = old.with_priority(priority);
         self.threads[t] = new;
-        self
-    }
-
-    // The word at an address of a process has another owner, if threads sleep there.
-    pub fn set_owner(mut self, process: usize, uaddr: u32, owner: u8) -> Self
-        ensures { result ≡ set_owner process uaddr owner self }
-    {
-        let mut i: usize = 0;
-        while i < THREADS {
-            let t = self.threads[i];
-            let own = i / Self::THREADS_PER_PROCESS == process;
-            let u = t.owned_if(own & (t.waiting & (t.uaddr == uaddr)), owner);
-            self.threads[i] = u;
-            i += 1;
-        }
         self
     }
 

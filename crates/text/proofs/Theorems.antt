@@ -16,7 +16,7 @@ use Rattle.rules.specs.declared.answer.Errno.{Errno}
 use Rattle.rules.specs.declared.answer.Errno.TheVariants.{ENXIO, EBADF, ESRCH, EBUSY, ENOSYS, EINVAL, EFAULT, EAGAIN, ETIMEDOUT}
 use Rattle.rules.specs.declared.answer.Reason.TheVariants.{FirstCap}
 use Rattle.rules.specs.declared.answer.Answer.{Answer}
-use Rattle.rules.specs.declared.answer.Answer.TheVariants.{Asleep, Count, Refused, Waiting, Owner}
+use Rattle.rules.specs.declared.answer.Answer.TheVariants.{Asleep, Count, Refused, Waiting}
 use Rattle.rules.specs.Answers.{◌because◌, plain, errno_number, answer_numbers}
 use Rattle.text.specs.Text.{places_for, most_digits, decimal, value_from, is_digit, count_line, refusal_line, number_line, line_of, Spoken, Puts}
 use Rattle.text.proofs.Decimal.{places_fewest, length_digits, digits_value, digits_digits}
@@ -48,10 +48,9 @@ line_of_number Asleep z awake h = absurd (awake refl)
 line_of_number (Count n) z awake h = let e : pos n ≡ z = cc in ap number_line e
 line_of_number (Refused x) z awake h = let e : neg_ℤ (pos (errno_number x.errno)) ≡ z = cc in negated_line x.errno ∙ ap number_line e
 line_of_number (Waiting v) z awake h = never cc
-line_of_number (Owner n) z awake h = let e : pos n ≡ z = cc in ap number_line e
 
--- `asleep`, `0`, `9`, `10`, `4294967295`, `-3`, `-22` whatever its reason, `-110`, `255` for no owner, byte by byte
-pub the_lines : map line_of (Asleep ∷ Count 0 ∷ Count 9 ∷ Count 10 ∷ Count 4294967295 ∷ Refused (plain ESRCH) ∷ Refused (EINVAL because FirstCap) ∷ Refused (plain ETIMEDOUT) ∷ Owner 255 ∷ [])
+-- `asleep`, `0`, `9`, `10`, `4294967295`, `-3`, `-22` whatever its reason, `-110`, byte by byte
+pub the_lines : map line_of (Asleep ∷ Count 0 ∷ Count 9 ∷ Count 10 ∷ Count 4294967295 ∷ Refused (plain ESRCH) ∷ Refused (EINVAL because FirstCap) ∷ Refused (plain ETIMEDOUT) ∷ [])
     ≡ (97 ∷ 115 ∷ 108 ∷ 101 ∷ 101 ∷ 112 ∷ 10 ∷ [])
     ∷ (48 ∷ 10 ∷ [])
     ∷ (57 ∷ 10 ∷ [])
@@ -60,7 +59,6 @@ pub the_lines : map line_of (Asleep ∷ Count 0 ∷ Count 9 ∷ Count 10 ∷ Cou
     ∷ (45 ∷ 51 ∷ 10 ∷ [])
     ∷ (45 ∷ 50 ∷ 50 ∷ 10 ∷ [])
     ∷ (45 ∷ 49 ∷ 49 ∷ 48 ∷ 10 ∷ [])
-    ∷ (50 ∷ 53 ∷ 53 ∷ 10 ∷ [])
     ∷ []
 unfolding line_of refusal_line count_line decimal
 the_lines = refl

@@ -3,16 +3,15 @@
 ghost use Rattle.std.specs.Prelude.{◌≡◌, cond};
 ghost use Rattle.rules.specs.declared.answer.Errno.TheVariants.{EINVAL};
 ghost use Rattle.rules.specs.declared.answer.Verdict.TheVariants.{Refuse};
-ghost use Rattle.rules.specs.Answers.{◌because◌, plain, first, by_rows};
-ghost use Rattle.tables.specs.Editions.{present};
+ghost use Rattle.rules.specs.Answers.{◌because◌, plain, first, reason_among};
 ghost use Rattle.rules.specs.Commands.{command_of};
-ghost use Rattle.rules.specs.Calls.{no_thread, bad_argument, argument_rows, bad_address, differs, bad_owner_in, late, behind_rows, front_in, last_rows};
+ghost use Rattle.rules.specs.Calls.{no_thread, bad_argument, argument_rows, bad_address, differs, late, behind_rows, call_rows};
 ghost use Rattle.rules.specs.Events.{priority_rows};
 
 use commands::{deadline_of, not_implemented, second_cap, timeout_given, uses_by};
 use operations::undefined_op;
 use rules::answer::{Errno, Reason, Refusal, Verdict};
-use rules::event::{Call, Owning};
+use rules::event::Call;
 use tables::{MAX_PRIORITY, PROCESS_BYTES, PROCESSES, State, WORD_BYTES};
 
 const MAX_CAP: u32 = 2147483647;
@@ -78,13 +77,17 @@ fn reason_if(reason: Reason, applies: bool, below: Reason) -> Reason
     if applies { reason } else { below }
 }
 
-// What is wrong with a call's arguments, from the last row for -22 up: the lowest reason that applies, or the one below these rows.
-pub fn wrong_argument(c: Call, below: Reason) -> Reason
-    ensures { result ≡ by_rows (λ x. x.reason) (argument_rows (command_of c.op) c) below }
+// What is wrong with a call's arguments, from the last row for -22 up: the lowest reason that applies.
+pub fn wrong_argument(c: Call) -> Reason
+    ensures { result ≡ reason_among (argument_rows (command_of c.op) c) }
 {
     let u = uses_by(c.op);
     let cap2 = second_cap(c);
-    let r = reason_if(Reason::SameAddress, u.moves & (c.uaddr == c.uaddr2), below);
+    let r = reason_if(
+        Reason::SameAddress,
+        u.moves & (c.uaddr == c.uaddr2),
+        Reason::NoReason,
+    );
     let r = reason_if(
         Reason::Uaddr2Unaligned,
         u.second & (c.uaddr2 % WORD_BYTES != 0),
@@ -120,16 +123,9 @@ fn late(c: Call, now: u64) -> bool
     u.deadline & given & (due <= now)
 }
 
-// The owner that a call names is no index, and does not stand for none.
-fn bad_owner(o: Owning) -> bool
-    ensures { result ≡ bad_owner_in present o }
-{
-    !(((o.owner as usize) < State::THREADS_PER_PROCESS) | (o.owner == State::NO_OWNER))
-}
-
 // The verdict by the rows behind those for -22.
-fn verdict_behind(c: Call, o: Owning, word: u32) -> Verdict
-    ensures { result ≡ first (behind_rows present (command_of c.op) c o word) }
+fn verdict_behind(c: Call, now: u64, word: u32) -> Verdict
+    ensures { result ≡ first (behind_rows (command_of c.op) c now word) }
 {
     if bad_address(c) {
         return refused(Errno::EFAULT);
@@ -142,16 +138,16 @@ fn verdict_behind(c: Call, o: Owning, word: u32) -> Verdict
     if differs(c, word) {
         return refused(Errno::EAGAIN);
     }
-    if bad_owner(o) {
-        return refused(Errno::ESRCH);
+    if late(c, now) {
+        return refused(Errno::ETIMEDOUT);
     }
     Verdict::Pass
 }
 
-// The verdict on a call whose memory and tables are sound, by the table's rows from the third up to those that look at what it would do: the
-// first that applies answers, and no later one is tested.
-pub fn verdict_on(c: Call, o: Owning, waits: bool, word: u32) -> Verdict
-    ensures { result ≡ first (front_in present c o waits word) }
+// The verdict on a call whose memory and tables are sound, by the table's rows from the third on: the first that applies answers, and no
+// later one is tested.
+pub fn verdict_on(c: Call, waits: bool, now: u64, word: u32) -> Verdict
+    ensures { result ≡ first (call_rows c waits now word) }
 {
     if no_thread(c.process, c.index) {
         return refused(Errno::ESRCH);
@@ -163,22 +159,9 @@ pub fn verdict_on(c: Call, o: Owning, waits: bool, word: u32) -> Verdict
         return refused(Errno::ENOSYS);
     }
     if bad_argument(c) {
-        return refused_for(wrong_argument(c, Reason::NoReason));
+        return refused_for(wrong_argument(c));
     }
-    verdict_behind(c, o, word)
-}
-
-// The verdict by the last rows, once it is known whether the call would leave a thread asleep on a word that it owns.
-pub fn last_verdict(c: Call, now: u64, owns: bool) -> Verdict
-    ensures { result ≡ first (last_rows c now owns) }
-{
-    if owns {
-        return refused_for(Reason::OwnWord);
-    }
-    if late(c, now) {
-        return refused(Errno::ETIMEDOUT);
-    }
-    Verdict::Pass
+    verdict_behind(c, now, word)
 }
 
 // The verdict on a priority that is to be set, memory and tables being sound.

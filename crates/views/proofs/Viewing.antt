@@ -28,51 +28,47 @@ has_place t l = cases (elem t l)
     (λ e. rw (e, place_absent t l e))
 
 -- The first i threads of process p are read.
-pub record Viewing (r : ℕ → Thread) (place : List ℕ) (p : ℕ) (at uaddr bitset priority owner : List ℕ) (i : ℕ) : Type 0 where
+pub record Viewing (r : ℕ → Thread) (place : List ℕ) (p : ℕ) (at uaddr bitset priority : List ℕ) (i : ℕ) : Type 0 where
   pub places : Filled threads_per_process 0 (λ j. get_or place (thread_number p j) 0) at i
   pub addresses : Filled threads_per_process 0 (λ j. (r (thread_number p j)).uaddr) uaddr i
   pub masks : Filled threads_per_process 0 (λ j. (r (thread_number p j)).bitset) bitset i
   pub priorities : Filled threads_per_process 0 (λ j. (r (thread_number p j)).priority) priority i
-  pub owners : Filled threads_per_process 0 (λ j. (r (thread_number p j)).owner) owner i
 
 module _ (r : ℕ → Thread) (place : List ℕ) (p : ℕ) where
-  pub viewing_start : (at uaddr bitset priority owner : List ℕ) → length at ≡ threads_per_process → length uaddr ≡ threads_per_process → length bitset ≡ threads_per_process
-      → length priority ≡ threads_per_process → length owner ≡ threads_per_process → Viewing r place p at uaddr bitset priority owner 0
-  viewing_start at uaddr bitset priority owner w x y z o =
+  pub viewing_start : (at uaddr bitset priority : List ℕ) → length at ≡ threads_per_process → length uaddr ≡ threads_per_process → length bitset ≡ threads_per_process
+      → length priority ≡ threads_per_process → Viewing r place p at uaddr bitset priority 0
+  viewing_start at uaddr bitset priority w x y z =
       record {
         places = filled_start _ at w;
         addresses = filled_start _ uaddr x;
         masks = filled_start _ bitset y;
         priorities = filled_start _ priority z;
-        owners = filled_start _ owner o;
       }
 
-  pub viewing_next : (at uaddr bitset priority owner : List ℕ) (i k a m n x : ℕ) → Viewing r place p at uaddr bitset priority owner i → i < threads_per_process
+  pub viewing_next : (at uaddr bitset priority : List ℕ) (i k a m n : ℕ) → Viewing r place p at uaddr bitset priority i → i < threads_per_process
       → k ≡ get_or place (thread_number p i) 0 → a ≡ (r (thread_number p i)).uaddr → m ≡ (r (thread_number p i)).bitset
-      → n ≡ (r (thread_number p i)).priority → x ≡ (r (thread_number p i)).owner
-      → Viewing r place p (set at i k) (set uaddr i a) (set bitset i m) (set priority i n) (set owner i x) (i + 1)
-  viewing_next at uaddr bitset priority owner i k a m n x g more e f h j o =
+      → n ≡ (r (thread_number p i)).priority
+      → Viewing r place p (set at i k) (set uaddr i a) (set bitset i m) (set priority i n) (i + 1)
+  viewing_next at uaddr bitset priority i k a m n g more w x y z =
       record {
-        places = filled_next (λ j. get_or place (thread_number p j) 0) at i k g.places more e;
-        addresses = filled_next (λ j. (r (thread_number p j)).uaddr) uaddr i a g.addresses more f;
-        masks = filled_next (λ j. (r (thread_number p j)).bitset) bitset i m g.masks more h;
-        priorities = filled_next (λ j. (r (thread_number p j)).priority) priority i n g.priorities more j;
-        owners = filled_next (λ j. (r (thread_number p j)).owner) owner i x g.owners more o;
+        places = filled_next (λ j. get_or place (thread_number p j) 0) at i k g.places more w;
+        addresses = filled_next (λ j. (r (thread_number p j)).uaddr) uaddr i a g.addresses more x;
+        masks = filled_next (λ j. (r (thread_number p j)).bitset) bitset i m g.masks more y;
+        priorities = filled_next (λ j. (r (thread_number p j)).priority) priority i n g.priorities more z;
       }
 
   pub viewing_all : (s : State) → Sound s → ((t : ℕ) → t < threads → r t ≡ thread_of s t) → p < processes → Places place (arrivals s)
-      → (at uaddr bitset priority owner : List ℕ) (i : ℕ) → Viewing r place p at uaddr bitset priority owner i → threads_per_process ≤ i
-      → Views p s (record { place = at; uaddr = uaddr; bitset = bitset; priority = priority; owner = owner })
-  viewing_all s sound same own is at uaddr bitset priority owner i g end =
+      → (at uaddr bitset priority : List ℕ) (i : ℕ) → Viewing r place p at uaddr bitset priority i → threads_per_process ≤ i
+      → Views p s (record { place = at; uaddr = uaddr; bitset = bitset; priority = priority })
+  viewing_all s sound same own is at uaddr bitset priority i g end =
       record {
         asleep = λ j l. ap (λ k. not (eqb k 0)) (stands j l) ∙ has_place (thread_number p j) (arrivals s) ∙ listed_waiting s sound (thread_number p j);
         few = λ j l. omega (arith, stands j l, place_most (thread_number p j) (arrivals s), arrivals_fit s sound);
-        rising = views_places p s (record { place = at; uaddr = uaddr; bitset = bitset; priority = priority; owner = owner }) (λ t. place_of t (arrivals s)) stands
+        rising = views_places p s (record { place = at; uaddr = uaddr; bitset = bitset; priority = priority }) (λ t. place_of t (arrivals s)) stands
             (rising_places (arrivals s) (occurs_distinct (arrivals s) (once s sound)));
         addresses = λ j l. filled_all _ uaddr i g.addresses end j l ∙ ap (λ (x : Thread). x.uaddr) (same (thread_number p j) (low j l));
         masks = λ j l. filled_all _ bitset i g.masks end j l ∙ ap (λ (x : Thread). x.bitset) (same (thread_number p j) (low j l));
         priorities = λ j l. filled_all _ priority i g.priorities end j l ∙ ap (λ (x : Thread). x.priority) (same (thread_number p j) (low j l));
-        owners = λ j l. filled_all _ owner i g.owners end j l ∙ ap (λ (x : Thread). x.owner) (same (thread_number p j) (low j l));
       }
     where
       low : (j : ℕ) → j < threads_per_process → thread_number p j < threads

@@ -17,9 +17,7 @@ use Rattle.tables.specs.declared.LastAnswer.TheVariants.{TimedOut, Interrupted}
 use Rattle.tables.specs.Sizes.{threads}
 use Rattle.tables.specs.Tables.{world, thread_of, arrivals, expired_sleepers, end_in, end_sleeps}
 use Rattle.tables.specs.Steps.{Places, end_flagged}
-use Rattle.tables.specs.Editions.{present}
-use Rattle.tables.proofs.Sound.{Sound, tables_sound, listed_waiting, arrivals_fit}
-use Rattle.tables.proofs.Owners.{tables_owned, sound_tables, end_owned}
+use Rattle.tables.proofs.Sound.{Sound, tables_sound, sound_tables, listed_waiting, arrivals_fit}
 use Rattle.tables.proofs.Kept.{ending}
 use Rattle.rules.specs.declared.answer.Answer.TheVariants.{Count}
 use Rattle.rules.specs.Answers.{outcome}
@@ -54,8 +52,7 @@ module _ (b : List ℕ) (h : Held b) where
         record {
           number = ap pos done.0;
           small = omega (arith, done.0, due_few);
-          bytes = put ∙ clock_put left (whole left (sound_tables left (ending TimedOut (expired_sleepers time tables) tables sound)
-              (end_owned present tables sound.records TimedOut (expired_sleepers time tables) (tables_owned present tables h.sound)))) time mid done.1;
+          bytes = put ∙ clock_put left (whole left (sound_tables left (ending TimedOut (expired_sleepers time tables) tables sound))) time mid done.1;
         }
 
   -- An interrupt of a thread, by its place in the list.

@@ -1,4 +1,4 @@
--- The bytes of the fresh tables: no entry in the list, no owners, and zeros.
+-- The bytes of the fresh tables: no entry in the list, and zeros.
 use mathlib.Core.Path.{◌≡◌, refl, sym, ap, ◌∙◌}
 use mathlib.Core.Bool.{cond, ◌&&◌}
 use mathlib.Core.List.{flatten}
@@ -7,12 +7,12 @@ use lib.ListN.{length, get_or}
 use lib.Dec.{leb, ltb}
 use Rattle.lists.specs.Lists.{tabulate}
 use Rattle.lists.proofs.Tabulate.{get_d_tabulate}
-use Rattle.tables.specs.Sizes.{no_entry, no_owner}
+use Rattle.tables.specs.Sizes.{no_entry}
 use Rattle.tables.specs.Tables.{fresh_in, fresh}
-use Rattle.layout.specs.Layout.{tables_bytes, tables_size, list_at, waiting_at, owner_at}
+use Rattle.layout.specs.Layout.{tables_bytes, tables_size, list_at, waiting_at}
 
 abbrev laid : ℕ → ℕ
-laid i = cond (leb owner_at i) no_owner (cond (leb list_at i && ltb i waiting_at) no_entry 0)
+laid i = cond (leb list_at i && ltb i waiting_at) no_entry 0
 
 all_laid : tables_bytes fresh ≡ tabulate tables_size laid
 unfolding tables_bytes fresh_in flatten

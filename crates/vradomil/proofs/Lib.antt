@@ -1,5 +1,4 @@
 pub mod Steps
-pub mod Asking
 pub mod Reports
 pub mod Memory
 pub mod FirstRows

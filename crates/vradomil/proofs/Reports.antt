@@ -13,21 +13,16 @@ use mir.Syntax.{w32}
 use mir.Val.{SFits, to_z, of_z}
 use mir.Facts.{to_z-of_z}
 use Rattle.lists.proofs.Tests.{cases, never}
-use Rattle.rules.specs.declared.event.Call.{Call}
-use Rattle.rules.specs.declared.event.Owning.{Owning}
 use Rattle.rules.specs.declared.event.Event.{Event}
 use Rattle.rules.specs.declared.answer.Reason.{Reason}
-use Rattle.rules.specs.declared.answer.Reason.TheVariants.{NoReason, OwnWord}
+use Rattle.rules.specs.declared.answer.Reason.TheVariants.{NoReason}
 use Rattle.rules.specs.declared.answer.Answer.{Answer}
-use Rattle.rules.specs.declared.answer.Answer.TheVariants.{Asleep, Count, Refused, Waiting, Owner}
+use Rattle.rules.specs.declared.answer.Answer.TheVariants.{Asleep, Count, Refused, Waiting}
 use Rattle.tables.specs.Tables.{World}
-use Rattle.rules.specs.Answers.{reason_number, reason_of, is_minus22, by_rows}
-use Rattle.rules.specs.Commands.{command_of}
-use Rattle.rules.specs.Calls.{argument_rows}
+use Rattle.rules.specs.Answers.{reason_number, reason_of, is_minus22}
 use Rattle.rules.specs.Events.{step}
-use Rattle.rules.specs.Claims.{TestedAs}
-use Rattle.rules.proofs.Reasons.{refuses22, errno_22, reason_told, call_reason}
-use Rattle.vradomil.specs.Host.{seen, host_number, report_bytes, laid_over, Calls, Reads}
+use Rattle.rules.proofs.Reasons.{refuses22, errno_22, reason_told}
+use Rattle.vradomil.specs.Host.{host_number, report_bytes, laid_over}
 
 pub none_taken : (n : ℕ) (l : List ℕ) → l ≡ take n [] ++ l
 none_taken zero l = refl
@@ -47,7 +42,6 @@ number_22 Asleep = refl
 number_22 (Count n) = refl
 number_22 (Refused x) = errno_22 x.errno
 number_22 (Waiting v) = refl
-number_22 (Owner n) = refl
 
 -- The report of an event, made of its number and of what is wrong where that is -22.
 pub report_made : (e : Event) (w : World) {z : ℤ} {wrong : Reason} → z ≡ host_number (step e w).answer
@@ -72,19 +66,3 @@ not_invalid (negsuc n) h = cases (eqb n 21) (λ e. absurd (h (ap (λ k. of_z w32
 -- a number that an entry point answered is handed on as it was
 pub handed_on : (z : ℤ) → mag z < 2 ^ 31 → to_z w32 (of_z w32 z) ≡ z
 handed_on z fits = to_z-of_z {z = z} (record { sfits = fits })
-
--- What an event that is tested as a call ensures with a report, by what it ensures without: z is the number, handed on as r, and d the call that was
--- made of the event.
-abbrev reason_by : ℤ → Call → Reason
-reason_by r d = cond (is_minus22 r) (by_rows (λ x. x.reason) (argument_rows (command_of d.op) d) OwnWord) NoReason
-
-module _ {e : Event} {c : Call} {o : Owning} (is : TestedAs e c o) (b m lent : List ℕ) {z r : ℤ} (same : r ≡ z) {d : Call} (like : d ≡ c)
-    {q : Reason} (reason : q ≡ reason_by r d) {told : List ℕ} (laid : told ≡ laid_over (reason_number q ∷ []) lent) where
-  tested_report : z ≡ host_number (step e (seen b m)).answer → told ≡ laid_over (report_bytes (step e (seen b m)).answer) lent
-  tested_report number = laid ∙ report_made e (seen b m) (same ∙ number) (call_reason is (seen b m)) (reason ∙ ap (reason_by r) like) lent
-
-  pub calls_told : {bAfter mAfter : List ℕ} → Calls e b m [] z bAfter mAfter [] → Calls e b m lent r bAfter mAfter told
-  calls_told f = record { number = same ∙ f.number; tables = f.tables; words = f.words; report = tested_report f.number; fits = f.fits }
-
-  pub reads_told : Reads e b m [] z [] → Reads e b m lent r told
-  reads_told f = record { number = same ∙ f.number; report = tested_report f.number; fits = f.fits }

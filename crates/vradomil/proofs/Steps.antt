@@ -9,18 +9,15 @@ use mir.Val.{SFits, to_z, of_z}
 use mir.Facts.{to_z-of_z}
 use Rattle.tables.specs.declared.State.{State}
 use Rattle.rules.specs.declared.event.Call.{Call}
-use Rattle.rules.specs.declared.event.Owning.{Owning}
 use Rattle.rules.specs.declared.event.Event.{Event}
+use Rattle.rules.specs.declared.event.Event.TheVariants.{Call as CallEvent}
 use Rattle.rules.specs.declared.answer.Refusal.{Refusal}
 use Rattle.rules.specs.declared.answer.Verdict.TheVariants.{Refuse, Pass}
 use Rattle.rules.specs.declared.answer.Answer.TheVariants.{Refused}
 use Rattle.rules.specs.Answers.{first, Outcome, is_refused}
-use Rattle.rules.specs.Calls.{first_rows, front_rows}
+use Rattle.rules.specs.Commands.{command_of}
+use Rattle.rules.specs.Calls.{first_rows, call_effect}
 use Rattle.rules.specs.Events.{own_rows, is_query, refusals, effect, step}
-use Rattle.rules.specs.Claims.{Asks}
-use Rattle.refusals.proofs.Read.{own_front}
-use Rattle.kernel.specs.Follows.{asked}
-use Rattle.kernel.proofs.Calls.{asks_asked}
 use Rattle.rules.proofs.Rows.{all_rows, refused_before, passed_before, pass_clear, step_refused, step_passed}
 use Rattle.rules.proofs.Refused.{granted}
 use Rattle.tables.specs.Tables.{world}
@@ -28,7 +25,7 @@ use Rattle.layout.specs.Layout.{tables_bytes, state_at, words_at, words_bytes}
 use Rattle.layout.specs.Check.{Held}
 use Rattle.changes.specs.Change.{Stands}
 use Rattle.vradomil.specs.declared.buffers.Lent.{Lent}
-use Rattle.vradomil.specs.Host.{seen, tables_left, words_left, host_number, EventFits, ChangesTables, ChangesWords, Calls, Reads, BuffersJudged, Leaves, Tells}
+use Rattle.vradomil.specs.Host.{seen, tables_left, words_left, host_number, CallFits, EventFits, ChangesTables, ChangesWords, Calls, BuffersJudged, Leaves}
 
 -- the tables that sound bytes stand for
 pub stands : (b : List ℕ) → Held b → Stands (state_at b) b
@@ -98,30 +95,32 @@ changes_tables_done e b m r n after held h is done f =
     let number = is ∙ d.number in
     record { number = number_passed e b m r h number; bytes = tables_passed e b m r h number after d.bytes; report = refl; fits = f }
 
--- A call of the event e, by what is told of the call d that was made of it, with x said of owners; z is the number, handed on as r.
-pub calls_asked : {e : Event} {c : Call} {o : Owning} → Asks e c o → (b m : List ℕ) {z r : ℤ} {bAfter mAfter : List ℕ} {d : Call} {x : Owning} → r ≡ z → d ≡ c → x ≡ o
-    → Tells (asked d x (seen b m)) b m z bAfter mAfter → EventFits e → Calls e b m [] r bAfter mAfter []
-calls_asked is b m handed like says t f =
-    let same = (λ i. asked (like i) (says i) (seen b m)) ∙ sym (asks_asked is (seen b m)) in
-    record {
-      number = handed ∙ t.number ∙ ap (λ (o : Outcome). host_number o.answer) same;
-      tables = t.tables ∙ ap (λ (o : Outcome). tables_left o b) same;
-      words = t.words ∙ ap (λ (o : Outcome). words_left o m) same;
-      report = refl;
-      fits = f;
-    }
+-- a call
+module _ (c : Call) (b m : List ℕ) (r : ℤ) (f : CallFits c) where
+  pub calls_refused : (x : Refusal) → first (refusals (CallEvent c) (seen b m)) ≡ Refuse x → r ≡ host_number (Refused x) → Calls c b m [] r b m []
+  calls_refused x h n =
+      record {
+        number = number_refused (CallEvent c) b m r x h n;
+        tables = tables_refused (CallEvent c) b m r x h n;
+        words = words_refused (CallEvent c) b m r x h n;
+        report = refl;
+        fits = f;
+      }
 
--- a call's rows before the last two, on buffers that pass the first two
-pub front_judged : (c : Call) (o : Owning) (b m : List ℕ) (x : Lent) → BuffersJudged b m x → x.verdict ≡ Pass
-    → first (front_rows c o (seen b m)) ≡ first (own_front c o (world (state_at b) (words_at m)))
-front_judged c o b m x l h =
-    passed_before (first_rows (seen b m)) (own_front c o (seen b m)) (sym l.verdict ∙ h)
-    ∙ ap (λ (s : State). first (own_front c o (world s (words_at m)))) (l.held h).tables
-
--- an event that only reads
-module _ (e : Event) (b m : List ℕ) (r : ℤ) (f : EventFits e) where
-  pub reads_refused : (x : Refusal) → first (refusals e (seen b m)) ≡ Refuse x → r ≡ host_number (Refused x) → Reads e b m [] r []
-  reads_refused x h n = record { number = number_refused e b m r x h n; report = refl; fits = f }
-
-  pub reads_passed : first (refusals e (seen b m)) ≡ Pass → r ≡ host_number (effect e (seen b m)).answer → Reads e b m [] r []
-  reads_passed h n = record { number = number_passed e b m r h n; report = refl; fits = f }
+  pub calls_passed : (n : ℕ) (bAfter mAfter : List ℕ) → Held b → first (refusals (CallEvent c) (seen b m)) ≡ Pass → r ≡ pos n
+      → Leaves (call_effect (command_of c.op) c (world (state_at b) (words_at m))) n bAfter
+      → mAfter ≡ words_bytes (call_effect (command_of c.op) c (world (state_at b) (words_at m))).world.words
+      → Calls c b m [] r bAfter mAfter []
+  unfolding effect
+  calls_passed n bAfter mAfter held h is done words =
+      let k = command_of c.op in
+      let same = ap (λ (s : State). call_effect k c (world s (words_at m))) (sym held.tables) in
+      let d = leaves_by _ _ n bAfter same done in
+      let number = is ∙ d.number in
+      record {
+        number = number_passed (CallEvent c) b m r h number;
+        tables = tables_passed (CallEvent c) b m r h number bAfter d.bytes;
+        words = words_passed (CallEvent c) b m r h number mAfter (words ∙ ap (λ (o : Outcome). words_bytes o.world.words) same);
+        report = refl;
+        fits = f;
+      }

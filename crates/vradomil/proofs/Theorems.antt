@@ -17,20 +17,18 @@ use Rattle.tables.specs.declared.State.{State}
 use Rattle.tables.specs.Sizes.{threads_per_process, memory_words, word_limit}
 use Rattle.tables.specs.Tables.{tables_ok, fresh}
 use Rattle.rules.specs.declared.event.Call.{Call}
-use Rattle.rules.specs.declared.event.OwnerWait.{OwnerWait as WaitOf}
-use Rattle.rules.specs.declared.event.OwnerRequeue.{OwnerRequeue as RequeueOf}
 use Rattle.rules.specs.declared.event.Event.{Event}
-use Rattle.rules.specs.declared.event.Event.TheVariants.{Call as CallEvent, Store, Clock, Interrupt, Query, SetPriority, OwnerWait, OwnerWake, OwnerRequeue, OwnerQuery}
+use Rattle.rules.specs.declared.event.Event.TheVariants.{Call as CallEvent, Store, Clock, Interrupt, Query, SetPriority}
 use Rattle.rules.specs.declared.answer.Errno.TheVariants.{ENXIO, EBADF, ESRCH, EBUSY, ENOSYS, EINVAL, EFAULT, EAGAIN, ETIMEDOUT}
 use Rattle.rules.specs.declared.answer.Panel.{Panel}
 use Rattle.rules.specs.declared.answer.Answer.{Answer}
-use Rattle.rules.specs.declared.answer.Answer.TheVariants.{Asleep, Count, Refused, Waiting, Owner}
+use Rattle.rules.specs.declared.answer.Answer.TheVariants.{Asleep, Count, Refused, Waiting}
 use Rattle.rules.specs.Answers.{plain, answer_numbers, reason_number, reason_of}
 use Rattle.rules.specs.Calls.{no_process}
 use Rattle.rules.specs.Events.{waiting_in, waiting_set, panel_of, panel_in, panel}
 use Rattle.kernel.proofs.Events.{bits_small}
 use Rattle.layout.specs.Layout.{tables_bytes, tables_size, tables_at, words_bytes, words_at}
-use Rattle.vradomil.specs.Host.{packed, host_number, report_bytes, report_size, laid_over, EventFits, Calls, ChangesWords, ChangesTables, Reads, Shows, Initialised}
+use Rattle.vradomil.specs.Host.{packed, host_number, report_bytes, report_size, laid_over, EventFits, Calls, ChangesWords, ChangesTables, Shows, Initialised}
 use Rattle.changes.specs.Change.{Fits}
 use Rattle.changes.proofs.Faithful.{tables_back}
 use Rattle.vradomil.proofs.Memory.{words_back}
@@ -43,15 +41,15 @@ tables_stand s ok fit = tables_back s (tables_bytes s) (record { bytes = refl; s
 pub words_stand : (ws : List ℕ) → length ws ≡ memory_words → ((i : ℕ) → i < memory_words → get_or ws i 0 < word_limit) → words_at (words_bytes ws) ≡ ws
 words_stand ws long fit = words_back memory_words ws long fit
 
--- What each answer is to a host, by document 01's numbers: "asleep" is 2147483647, a count is itself, and so is an owner's index, or 255 for
--- none, a refusal the error number negated; with threads 1 and 3 asleep a panel query is 10 in the lowest byte, 2 in the second, 1 above.
+-- What each answer is to a host, by document 01's numbers: "asleep" is 2147483647, a count is itself, a refusal the error number negated; with
+-- threads 1 and 3 asleep a panel query is 10 in the lowest byte, 2 in the second, 1 above.
 pub host_numbers : (n : ℕ)
     → (host_number Asleep ≡ pos 2147483647) × (host_number (Count n) ≡ pos n)
     × (map (λ x. host_number (Refused (plain x))) (ENXIO ∷ EBADF ∷ ESRCH ∷ EBUSY ∷ ENOSYS ∷ EINVAL ∷ EFAULT ∷ EAGAIN ∷ ETIMEDOUT ∷ [])
     ≡ map (λ k. neg_ℤ (pos k)) (6 ∷ 9 ∷ 3 ∷ 16 ∷ 38 ∷ 22 ∷ 14 ∷ 11 ∷ 110 ∷ []))
-    × (host_number (Waiting (panel_of 10)) ≡ pos 0x01020A) × (host_number (Owner n) ≡ pos n)
+    × (host_number (Waiting (panel_of 10)) ≡ pos 0x01020A)
 unfolding ones count_trailing_zeros
-host_numbers n = (refl, refl, refl, refl, refl)
+host_numbers n = (refl, refl, refl, refl)
 
 -- They are the rules' numbers, but that a panel query's three are in one.
 pub one_number : (a : Answer) → (answer_numbers a ≡ host_number a ∷ []) ⊎ ((v : Panel) × (a ≡ Waiting v))
@@ -59,7 +57,6 @@ one_number Asleep = inl refl
 one_number (Count n) = inl refl
 one_number (Refused x) = inl refl
 one_number (Waiting v) = inr (v, refl)
-one_number (Owner n) = inl refl
 
 -- The one number of a panel query holds the three that document 01 asks for, where include/vradomil.h takes them out.
 pub panel_unpacks : (p : ℕ) (s : State)
@@ -77,8 +74,7 @@ panel_unpacks p s = parts (cond (no_process p || not (tables_ok s)) 0 (waiting_s
     small : cond (no_process p || not (tables_ok s)) 0 (waiting_set p s) < 2 ^ threads_per_process
     small = cases (no_process p || not (tables_ok s)) (λ e. rw e (omega arith)) (λ e. rw e (bits_small threads_per_process _))
 
--- An event fits exactly if each argument does: 8 bits for process, index, flag, priority, owner and single, 64 for a timeout, a
--- deadline and a time, 32 for all else.
+-- An event fits exactly if each argument does: 8 bits for process, index, flag and priority, 64 for a timeout and a time, 32 for all else.
 pub call_fits_exactly : (c : Call)
     → EventFits (CallEvent c) ↔ ((c.process < 256) × (c.index < 256) × (c.op < 4294967296) × (c.uaddr < 4294967296) × (c.val < 4294967296)
     × (c.flag < 256) × (c.timeout < 18446744073709551616) × (c.uaddr2 < 4294967296) × (c.val3 < 4294967296))
@@ -87,35 +83,16 @@ call_fits_exactly c = (
   λ f. record { process = f.0; index = f.1; op = f.2; uaddr = f.3; val = f.4; flag = f.5; timeout = f.6; uaddr2 = f.7; val3 = f.8 },
 )
 
-pub wait_fits_exactly : (x : WaitOf)
-    → EventFits (OwnerWait x) ↔ ((x.process < 256) × (x.index < 256) × (x.uaddr < 4294967296) × (x.val < 4294967296) × (x.flag < 256)
-    × (x.deadline < 18446744073709551616) × (x.owner < 256))
-wait_fits_exactly x = (
-  λ f. (f.process, f.index, f.uaddr, f.val, f.flag, f.deadline, f.owner),
-  λ f. record { process = f.0; index = f.1; uaddr = f.2; val = f.3; flag = f.4; deadline = f.5; owner = f.6 },
-)
-
-pub requeue_fits_exactly : (x : RequeueOf)
-    → EventFits (OwnerRequeue x) ↔ ((x.process < 256) × (x.index < 256) × (x.uaddr < 4294967296) × (x.cap < 4294967296) × (x.val < 4294967296)
-    × (x.uaddr2 < 4294967296) × (x.cap2 < 4294967296) × (x.owner < 256) × (x.single < 256))
-requeue_fits_exactly x = (
-  λ f. (f.process, f.index, f.uaddr, f.cap, f.val, f.uaddr2, f.cap2, f.owner, f.single),
-  λ f. record { process = f.0; index = f.1; uaddr = f.2; cap = f.3; val = f.4; uaddr2 = f.5; cap2 = f.6; owner = f.7; single = f.8 },
-)
-
 pub fits_exactly : (p i a v now n : ℕ)
     → (EventFits (Store p a v) ↔ ((p < 256) × (a < 4294967296) × (v < 4294967296)))
     × (EventFits (Clock now) ↔ (now < 18446744073709551616))
     × (EventFits (Interrupt p i) ↔ ((p < 256) × (i < 256)))
     × (EventFits (Query p) ↔ (p < 256))
     × (EventFits (SetPriority p i n) ↔ ((p < 256) × (i < 256) × (n < 256)))
-    × (EventFits (OwnerWake p i a) ↔ ((p < 256) × (i < 256) × (a < 4294967296)))
-    × (EventFits (OwnerQuery p i a) ↔ ((p < 256) × (i < 256) × (a < 4294967296)))
-fits_exactly p i a v now n =
-    ((λ f. f, λ f. f), (λ f. f, λ f. f), (λ f. f, λ f. f), (λ f. f, λ f. f), (λ f. f, λ f. f), (λ f. f, λ f. f), (λ f. f, λ f. f))
+fits_exactly p i a v now n = ((λ f. f, λ f. f), (λ f. f, λ f. f), (λ f. f, λ f. f), (λ f. f, λ f. f), (λ f. f, λ f. f))
 
 -- What an entry point ensures leaves nothing open: the number and every byte that it may change are fixed by the event and the bytes that came.
-pub call_fixed : {e : Event} {b m l b1 m1 t1 b2 m2 t2 : List ℕ} {r s : ℤ} → Calls e b m l r b1 m1 t1 → Calls e b m l s b2 m2 t2
+pub call_fixed : {c : Call} {b m l b1 m1 t1 b2 m2 t2 : List ℕ} {r s : ℤ} → Calls c b m l r b1 m1 t1 → Calls c b m l s b2 m2 t2
     → (r ≡ s) × (b1 ≡ b2) × (m1 ≡ m2) × (t1 ≡ t2)
 call_fixed f g = (f.number ∙ sym g.number, f.tables ∙ sym g.tables, f.words ∙ sym g.words, f.report ∙ sym g.report)
 
@@ -126,9 +103,6 @@ words_fixed f g = (f.number ∙ sym g.number, f.bytes ∙ sym g.bytes, f.report 
 pub tables_fixed : {e : Event} {b m l b1 t1 b2 t2 : List ℕ} {r s : ℤ} → ChangesTables e b m l r b1 t1 → ChangesTables e b m l s b2 t2
     → (r ≡ s) × (b1 ≡ b2) × (t1 ≡ t2)
 tables_fixed f g = (f.number ∙ sym g.number, f.bytes ∙ sym g.bytes, f.report ∙ sym g.report)
-
-pub reads_fixed : {e : Event} {b m l t1 t2 : List ℕ} {r s : ℤ} → Reads e b m l r t1 → Reads e b m l s t2 → (r ≡ s) × (t1 ≡ t2)
-reads_fixed f g = (f.number ∙ sym g.number, f.report ∙ sym g.report)
 
 pub query_fixed : {p n k : ℕ} {b : List ℕ} → Shows p b n → Shows p b k → n ≡ k
 query_fixed f g = f.number ∙ sym g.number
@@ -145,7 +119,7 @@ laid_over_lem report lent = (
   (λ h. ap (λ l. l ++ drop (length report) lent) (take_all (length lent) report h)),
 )
 
--- vradomil_fresh: 1,424 bytes become those of the fresh tables, and the answer is 0; bytes of another length stay, and the answer is -9.
+-- vradomil_fresh: 1,360 bytes become those of the fresh tables, and the answer is 0; bytes of another length stay, and the answer is -9.
 pub fresh_laid : {b after : List ℕ} {r : ℤ} → Initialised b r after
     → (length b ≡ tables_size → (r ≡ pos 0) × (after ≡ tables_bytes fresh)) × ((length b ≡ tables_size → ⊥) → (r ≡ neg_ℤ (pos 9)) × (after ≡ b))
 fresh_laid {b} {after} {r} f = (λ e. laid true (eq-eqb (length b) tables_size e), λ e. laid false (ne_eqb (length b) tables_size e))

@@ -2,13 +2,10 @@
 use Rattle.std.specs.Prelude.{◌≡◌, cond, List, [], ◌∷◌, ◌++◌, ℕ, ◌+◌, ◌*◌, ◌^◌, ◌≤◌, ◌<◌, ℤ, pos, neg_ℤ, length, take, drop, eqb}
 use Rattle.tables.specs.declared.State.{State}
 use Rattle.rules.specs.declared.event.Call.{Call}
-use Rattle.rules.specs.declared.event.Owning.{Owning}
-use Rattle.rules.specs.declared.event.OwnerWait.{OwnerWait as WaitOf}
-use Rattle.rules.specs.declared.event.OwnerRequeue.{OwnerRequeue as RequeueOf}
 use Rattle.rules.specs.declared.event.Event.{Event}
-use Rattle.rules.specs.declared.event.Event.TheVariants.{Call as CallEvent, Store, Clock, Interrupt, Query, SetPriority, OwnerWait, OwnerWake, OwnerRequeue, OwnerQuery}
+use Rattle.rules.specs.declared.event.Event.TheVariants.{Call as CallEvent, Store, Clock, Interrupt, Query, SetPriority}
 use Rattle.rules.specs.declared.answer.Answer.{Answer}
-use Rattle.rules.specs.declared.answer.Answer.TheVariants.{Asleep, Count, Refused, Waiting, Owner}
+use Rattle.rules.specs.declared.answer.Answer.TheVariants.{Asleep, Count, Refused, Waiting}
 use Rattle.rules.specs.declared.answer.Verdict.{Verdict}
 use Rattle.rules.specs.declared.answer.Verdict.TheVariants.{Pass}
 use Rattle.rules.specs.declared.answer.Errno.TheVariants.{EBADF}
@@ -53,7 +50,6 @@ host_number Asleep = pos asleep_number
 host_number (Count n) = pos n
 host_number (Refused x) = neg_ℤ (pos (errno_number x.errno))
 host_number (Waiting v) = pos (packed v)
-host_number (Owner n) = pos n
 
 -- What an event tells beside its number, byte by byte: the reason.
 abbrev pub report_bytes : Answer → List ℕ
@@ -81,26 +77,6 @@ pub record CallFits (c : Call) : Type 0 where
   pub uaddr2 : c.uaddr2 < word_limit
   pub val3 : c.val3 < word_limit
 
-pub record WaitFits (x : WaitOf) : Type 0 where
-  pub process : x.process < byte_limit
-  pub index : x.index < byte_limit
-  pub uaddr : x.uaddr < word_limit
-  pub val : x.val < word_limit
-  pub flag : x.flag < byte_limit
-  pub deadline : x.deadline < time_limit
-  pub owner : x.owner < byte_limit
-
-pub record RequeueFits (x : RequeueOf) : Type 0 where
-  pub process : x.process < byte_limit
-  pub index : x.index < byte_limit
-  pub uaddr : x.uaddr < word_limit
-  pub cap : x.cap < word_limit
-  pub val : x.val < word_limit
-  pub uaddr2 : x.uaddr2 < word_limit
-  pub cap2 : x.cap2 < word_limit
-  pub owner : x.owner < byte_limit
-  pub single : x.single < byte_limit
-
 abbrev pub EventFits : Event → Type 0
 EventFits (CallEvent c) = CallFits c
 EventFits (Store p a v) = (p < byte_limit) × (a < word_limit) × (v < word_limit)
@@ -108,10 +84,6 @@ EventFits (Clock now) = now < time_limit
 EventFits (Interrupt p i) = (p < byte_limit) × (i < byte_limit)
 EventFits (Query p) = p < byte_limit
 EventFits (SetPriority p i n) = (p < byte_limit) × (i < byte_limit) × (n < byte_limit)
-EventFits (OwnerWait x) = WaitFits x
-EventFits (OwnerWake p i a) = (p < byte_limit) × (i < byte_limit) × (a < word_limit)
-EventFits (OwnerRequeue x) = RequeueFits x
-EventFits (OwnerQuery p i a) = (p < byte_limit) × (i < byte_limit) × (a < word_limit)
 
 -- What the entry points ensure: the number, every byte that they may change, the bytes `lent` for a report among them, and, since no other
 -- event can be passed to them, that the event's arguments fit their types. One that is lent no bytes for a report ensures it of none.
@@ -130,19 +102,13 @@ pub record ChangesWords (e : Event) (tables words lent : List ℕ) (r : ℤ) (af
   pub report : told ≡ laid_over (report_bytes (step e (seen tables words)).answer) lent
   pub fits : EventFits e
 
--- A call, plain or of the owner family, which may change both.
-pub record Calls (e : Event) (b m lent : List ℕ) (r : ℤ) (bAfter mAfter told : List ℕ) : Type 0 where
-  pub number : r ≡ host_number (step e (seen b m)).answer
-  pub tables : bAfter ≡ tables_left (step e (seen b m)) b
-  pub words : mAfter ≡ words_left (step e (seen b m)) m
-  pub report : told ≡ laid_over (report_bytes (step e (seen b m)).answer) lent
-  pub fits : EventFits e
-
--- An event that changes nothing, with tables and words that are only read.
-pub record Reads (e : Event) (b m lent : List ℕ) (r : ℤ) (told : List ℕ) : Type 0 where
-  pub number : r ≡ host_number (step e (seen b m)).answer
-  pub report : told ≡ laid_over (report_bytes (step e (seen b m)).answer) lent
-  pub fits : EventFits e
+-- A call, which may change both.
+pub record Calls (c : Call) (b m lent : List ℕ) (r : ℤ) (bAfter mAfter told : List ℕ) : Type 0 where
+  pub number : r ≡ host_number (step (CallEvent c) (seen b m)).answer
+  pub tables : bAfter ≡ tables_left (step (CallEvent c) (seen b m)) b
+  pub words : mAfter ≡ words_left (step (CallEvent c) (seen b m)) m
+  pub report : told ≡ laid_over (report_bytes (step (CallEvent c) (seen b m)).answer) lent
+  pub fits : CallFits c
 
 -- A panel query, which changes nothing.
 pub record Shows (p : ℕ) (tables : List ℕ) (n : ℕ) : Type 0 where
@@ -163,11 +129,11 @@ pub record BuffersJudged (tables words : List ℕ) (l : Lent) : Type 0 where
   pub long : l.verdict ≡ Pass → length words ≡ memory_size
   pub places : l.verdict ≡ Pass → Places l.place (arrivals (state_at tables))
 
--- a call on tables that keep the rules, which no row refuses but perhaps one of the last two
-pub record Passed (c : Call) (o : Owning) (tables words place : List ℕ) : Type 0 where
+-- a call on tables that keep the rules, which no row refuses
+pub record Passed (c : Call) (tables words place : List ℕ) : Type 0 where
   pub held : Held tables
   pub long : length words ≡ memory_size
-  pub granted : Granted c o (state_at tables) (words_at words)
+  pub granted : Granted c (state_at tables) (words_at words)
   pub places : Places place (arrivals (state_at tables))
 
 -- the word that a plan writes, on the words' bytes
@@ -183,9 +149,3 @@ pub record Done (a : Answer) (s : State) (n : ℕ) (after : List ℕ) : Type 0 w
 
 abbrev pub Leaves : Outcome → ℕ → List ℕ → Type 0
 Leaves o n after = Done o.answer o.world.state n after
-
--- an outcome as a number and bytes; a refusal leaves every byte
-pub record Tells (o : Outcome) (b m : List ℕ) (r : ℤ) (bAfter mAfter : List ℕ) : Type 0 where
-  pub number : r ≡ host_number o.answer
-  pub tables : bAfter ≡ tables_left o b
-  pub words : mAfter ≡ words_left o m

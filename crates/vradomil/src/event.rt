@@ -1,9 +1,9 @@
 // Other events: stores, clock events, interrupts, panel queries and set priorities; and fresh tables.
 ghost use Rattle.std.specs.Prelude.{◌≡◌, cond, ◌&&◌, [], ◌<◌, length, leb, ltb};
-ghost use Rattle.tables.specs.Sizes.{processes, no_entry, no_owner};
+ghost use Rattle.tables.specs.Sizes.{processes, no_entry};
 ghost use Rattle.rules.specs.declared.event.Event.TheVariants.{Store, Clock, Interrupt, SetPriority};
 ghost use Rattle.rules.specs.Events.{waiting_set};
-ghost use Rattle.layout.specs.Layout.{state_at, tables_size, list_at, waiting_at, owner_at};
+ghost use Rattle.layout.specs.Layout.{state_at, tables_size, list_at, waiting_at};
 ghost use Rattle.vradomil.specs.Host.{ChangesWords, ChangesTables, Shows, Initialised};
 
 use crate::answer::refusal;
@@ -12,7 +12,7 @@ use changes::{end_due, end_one, set_priority};
 use commands::{thread_index, word_index};
 use effects::only_if;
 use layout::check::sound;
-use layout::{CLOCK_AT, LIST_AT, OWNER_AT, TABLES_SIZE, WAITING_AT, WORD_SIZE};
+use layout::{CLOCK_AT, LIST_AT, TABLES_SIZE, WAITING_AT, WORD_SIZE};
 use numbers::{put_u32, put_u64, u64_at};
 use rules::answer::{Errno, Reason, Verdict};
 use tables::{LastAnswer, PROCESS_BYTES, PROCESSES, State, WORD_BYTES};
@@ -182,13 +182,10 @@ pub extern "C" fn vradomil_query(tables: &[u8], process: u8) -> u32
     bits as u32 + COUNT_UNIT * n + LOWEST_UNIT * lowest
 }
 
-// A byte of the fresh tables: the list has no entry, and no word an owner.
+// A byte of the fresh tables.
 fn fresh_byte(i: usize) -> u8
-    ensures { result ≡ cond (leb owner_at i) no_owner (cond (leb list_at i && ltb i waiting_at) no_entry 0) }
+    ensures { result ≡ cond (leb list_at i && ltb i waiting_at) no_entry 0 }
 {
-    if OWNER_AT <= i {
-        return State::NO_OWNER;
-    }
     if (LIST_AT <= i) & (i < WAITING_AT) {
         State::NO_ENTRY
     } else {

@@ -3,5 +3,4 @@ mod answer;
 mod buffers;
 pub mod call;
 pub mod event;
-pub mod owner;
 pub mod report;

@@ -24,7 +24,7 @@ fn company(state: &State, number: usize) -> usize {
 
 /// A sleeper and a thread of its process that runs. Of three sleepers that are drawn
 /// it is the one with the most company. None if no thread runs beside it.
-pub fn sleeper_and_caller(rng: &mut Rng, state: &State) -> Option<(usize, Who)> {
+fn sleeper_and_caller(rng: &mut Rng, state: &State) -> Option<(usize, Who)> {
     let drawn = [sleeper(rng, state)?, sleeper(rng, state)?, sleeper(rng, state)?];
     let number = drawn.into_iter().max_by_key(|&number| company(state, number))?;
     let process = (number / THREADS_PER_PROCESS) as u8;
@@ -43,7 +43,7 @@ fn mask(rng: &mut Rng, met: u32) -> u32 {
 }
 
 /// Small, so that many are left for later.
-pub fn cap(rng: &mut Rng) -> u32 {
+fn cap(rng: &mut Rng) -> u32 {
     if rng.percent(95) {
         rng.pick(&[0, 1, 1, 1, 1, 2, 2, 3])
     } else {

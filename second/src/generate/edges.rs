@@ -1,6 +1,6 @@
 //! The edge script: the twelve cases of document 01, its edge numbers, every
 //! refusal and the order between them, the slips it names, and the reasons, the
-//! signed WAKE_OP, the full list, the priorities, the order of taking and the owners of
+//! signed WAKE_OP, the full list, the priorities and the order of taking of
 //! document 02.
 
 mod arguments;
@@ -8,7 +8,6 @@ mod broken;
 mod full;
 mod operations;
 mod order;
-mod owners;
 mod priorities;
 mod reasons;
 mod refusals;
@@ -35,7 +34,6 @@ pub fn script() -> Vec<u8> {
     reasons::add(&mut script);
     priorities::add(&mut script);
     order::add(&mut script);
-    owners::add(&mut script);
     script.bytes
 }
 
@@ -44,7 +42,6 @@ pub fn faults() -> Vec<u8> {
     let mut script = Script::default();
     refusals::add(&mut script, u32::MAX);
     refusals::add_priorities(&mut script);
-    refusals::add_owners(&mut script, u32::MAX);
     script.bytes
 }
 
@@ -98,20 +95,6 @@ pub fn each_by(who: Who) -> Vec<Event> {
 pub fn each_kind_by(who: Who) -> Vec<Event> {
     let mut events = each_by(who);
     events.extend([s::set_priority(who, 31), s::set_priority((7 - who.0, who.1), 1)]);
-    events
-}
-
-/// The same, and the owner family by the caller.
-pub fn each_with_owners_by(who: Who) -> Vec<Event> {
-    let mut events = each_kind_by(who);
-    events.extend([
-        s::owner_query(who, 8),
-        s::owner_wake(who, 8),
-        s::owner_requeue(who, 8, 12, (1, 1), (who.1 + 1) % 8),
-        s::single_requeue(who, 8, 12, 1, 255),
-        s::owner_wait(who, 8, 0, 255),
-        s::owner_wait_until(who, 8, 0, (who.1 + 1) % 8, u64::MAX),
-    ]);
     events
 }
 

@@ -2,7 +2,7 @@
 //! and caps, masks of few bits, deadlines near the clock, edge numbers. The
 //! tables and words are looked at, so that many waits truly sleep.
 
-use super::{aimed, owners};
+use super::aimed;
 use crate::model::{
     Call, Event, State, CMP_REQUEUE, FIRST_BAD_ADDRESS, HIGHEST_PRIORITY, PROCESSES, REQUEUE,
     THREADS_PER_PROCESS, WAIT, WAIT_BITSET, WAKE, WAKE_BITSET, WAKE_OP, WORDS_PER_PROCESS,
@@ -59,34 +59,15 @@ const EDGE_CMPARGS: &[i32] = &[-2048, -2, -1, 0, 1, 2, 3, 2047];
 /// The next event of a history that has come to these tables and words. Priorities
 /// are set often until a fair number of threads have one.
 pub fn next(rng: &mut Rng, state: &State, words: &[u32]) -> Event {
-    set_priority(rng, state).unwrap_or_else(|| next_that_keeps(rng, state, words))
-}
-
-/// The same, but that it leaves all priorities as they are. A third of them or so have
-/// to do with owners.
-pub fn next_that_keeps(rng: &mut Rng, state: &State, words: &[u32]) -> Event {
-    let plain = next_of_calls(rng, state, words);
-    // Words keep their owners for a while.
-    let chance = if owners::clears(state, &plain) { 75 } else { 40 };
-    if rng.percent(chance) {
-        return owners::next(rng, state, words);
-    }
-    plain
-}
-
-/// What there was before there were owners, for logs that are to stay as they were
-/// then.
-pub fn next_but_owners(rng: &mut Rng, state: &State, words: &[u32]) -> Event {
-    set_priority(rng, state).unwrap_or_else(|| next_of_calls(rng, state, words))
-}
-
-fn set_priority(rng: &mut Rng, state: &State) -> Option<Event> {
     let given = state.threads.iter().filter(|thread| thread.priority > 0).count();
-    let wanted = rng.percent(if given < 12 { 25 } else { 10 });
-    wanted.then(|| s::set_priority(aimed::target(rng, state), priority(rng)))
+    if rng.percent(if given < 12 { 25 } else { 10 }) {
+        return s::set_priority(aimed::target(rng, state), priority(rng));
+    }
+    next_that_keeps(rng, state, words)
 }
 
-fn next_of_calls(rng: &mut Rng, state: &State, words: &[u32]) -> Event {
+/// The same, but that it leaves all priorities as they are.
+pub fn next_that_keeps(rng: &mut Rng, state: &State, words: &[u32]) -> Event {
     let aimed = rng.percent(30).then(|| aimed::call(rng, state, words)).flatten();
     aimed.unwrap_or_else(|| next_but_priorities(rng, state, words))
 }
@@ -150,7 +131,7 @@ pub fn address(rng: &mut Rng) -> u32 {
 
 /// A second address is an edge more often: what is wrong with it shows only
 /// where the caps and the first address are good.
-pub fn second_address(rng: &mut Rng) -> u32 {
+fn second_address(rng: &mut Rng) -> u32 {
     match rng.below(100) {
         0..=79 => rng.pick(&[0, 4, 8]),
         80..=87 => rng.pick(GOOD_ADDRESSES),
@@ -158,7 +139,7 @@ pub fn second_address(rng: &mut Rng) -> u32 {
     }
 }
 
-pub fn value(rng: &mut Rng) -> u32 {
+fn value(rng: &mut Rng) -> u32 {
     match rng.below(100) {
         0..=84 => rng.below(4) as u32,
         85..=96 => rng.pick(EDGE_U32),
@@ -175,7 +156,7 @@ fn stored(rng: &mut Rng) -> u32 {
     }
 }
 
-pub fn cap(rng: &mut Rng) -> u32 {
+fn cap(rng: &mut Rng) -> u32 {
     if rng.percent(85) {
         rng.below(5) as u32
     } else {
@@ -192,7 +173,7 @@ fn mask(rng: &mut Rng) -> u32 {
 }
 
 /// A time a little before or after the clock, or an edge.
-pub fn near_clock(rng: &mut Rng, clock: u64) -> u64 {
+fn near_clock(rng: &mut Rng, clock: u64) -> u64 {
     match rng.below(100) {
         0..=9 => clock.saturating_sub(rng.below(3)),
         10..=98 => clock.saturating_add(rng.below(12)),
@@ -220,7 +201,7 @@ fn op(rng: &mut Rng) -> u32 {
     command | bits
 }
 
-pub fn flag(rng: &mut Rng) -> u8 {
+fn flag(rng: &mut Rng) -> u8 {
     if rng.percent(95) {
         rng.below(2) as u8
     } else {
@@ -236,7 +217,7 @@ pub fn sleeps(state: &State, who: (u8, u8)) -> bool {
 }
 
 /// A caller that can call: a running thread, if a few tries find one.
-pub fn caller(rng: &mut Rng, state: &State) -> (u8, u8) {
+fn caller(rng: &mut Rng, state: &State) -> (u8, u8) {
     let mut who = (process(rng), index(rng));
     for attempt in 0..6 {
         if !sleeps(state, who) {

@@ -1,6 +1,5 @@
 //! Logs, whole and damaged.
 
-mod owners;
 mod priorities;
 
 use std::io::{self, Write};
@@ -94,16 +93,13 @@ fn append(event: &Event, bytes: &mut Vec<u8>) -> bool {
     length > 0
 }
 
-/// Makes a record with a bad flag.
-type BadFlag = fn(&mut Rng) -> Vec<u8>;
-
 /// A log of fewer than `limit` events with one damage: cut somewhere, a bad kind
 /// or a bad flag somewhere, any byte changed, or junk at its end.
 pub fn damaged(rng: &mut Rng, limit: u64) -> Vec<u8> {
-    damaged_of(events::next, owners::any_bad_flag, rng, limit)
+    damaged_of(events::next, rng, limit)
 }
 
-fn damaged_of(draw: Draw, bad_flag: BadFlag, rng: &mut Rng, limit: u64) -> Vec<u8> {
+fn damaged_of(draw: Draw, rng: &mut Rng, limit: u64) -> Vec<u8> {
     let count = rng.below(limit);
     let mut bytes = whole_of(draw, rng, count);
     match rng.below(6) {
@@ -111,8 +107,8 @@ fn damaged_of(draw: Draw, bad_flag: BadFlag, rng: &mut Rng, limit: u64) -> Vec<u
             let length = rng.below(bytes.len() as u64 + 1) as usize;
             bytes.truncate(length);
         }
-        1 => bytes.push(rng.pick(&[0, 10, 11, 81, 128, 254, 255])),
-        2 => bytes.extend(cut_record(draw, bad_flag, rng)),
+        1 => bytes.push(rng.pick(&[0, 6, 7, 81, 128, 254, 255])),
+        2 => bytes.extend(cut_record(draw, rng)),
         3 => bytes.extend(bad_flag(rng)),
         4 => {
             bytes.extend(bad_flag(rng));
@@ -128,8 +124,8 @@ fn damaged_of(draw: Draw, bad_flag: BadFlag, rng: &mut Rng, limit: u64) -> Vec<u
     bytes
 }
 
-/// A record that lacks its end; it may carry a bad flag besides.
-fn cut_record(draw: Draw, bad_flag: BadFlag, rng: &mut Rng) -> Vec<u8> {
+/// A record that lacks its end; a cut call may carry a bad flag besides.
+fn cut_record(draw: Draw, rng: &mut Rng) -> Vec<u8> {
     let mut record = if rng.percent(50) { bad_flag(rng) } else { whole_of(draw, rng, 1) };
     let length = 1 + rng.below(record.len() as u64 - 1) as usize;
     record.truncate(length);
@@ -141,22 +137,17 @@ fn bad_flag(rng: &mut Rng) -> Vec<u8> {
     let words = vec![0; WORDS];
     let mut call = events::call(rng, &State::fresh(), &words);
     call.flag = rng.pick(&[2, 3, 128, 255]);
-    encoded(&Event::Call(call))
-}
-
-/// The record of an event, whatever its flag.
-fn encoded(event: &Event) -> Vec<u8> {
-    match log::encode(event) {
+    match log::encode(&Event::Call(call)) {
         Some((record, length)) => record[..length].to_vec(),
         None => Vec::new(),
     }
 }
 
 /// A short log to read: a lock handed over, a stale word, a requeue that keeps
-/// a deadline, a timeout, an interrupt, refusals, a stop key that goes before a
-/// sleeper who came earlier, and an owned lock whose owner goes from one to the next.
+/// a deadline, a timeout, an interrupt, refusals, and a stop key that goes before a
+/// sleeper who came earlier.
 pub fn story() -> Vec<u8> {
-    let plain = [
+    of(&[
         s::store(0, 8, 2),
         s::wait((0, 1), 8, 2),
         s::wait((0, 2), 8, 2),
@@ -178,30 +169,7 @@ pub fn story() -> Vec<u8> {
         // Who was left: not the stop key.
         s::interrupt((3, 0)),
         s::interrupt((3, 1)),
-    ];
-    of(&[&plain[..], &owned_story()].concat())
-}
-
-/// The story of the owned lock.
-fn owned_story() -> Vec<Event> {
-    vec![
-        s::owner_wait((4, 1), 32, 0, 0),
-        s::owner_wait_until((4, 2), 32, 0, 0, 500),
-        s::wait((4, 3), 32, 0),
-        s::owner_query((4, 7), 32),
-        // The owner doesn't wait for his own lock.
-        s::wait((4, 0), 32, 0),
-        s::owner_wake((4, 0), 32),
-        s::owner_query((4, 7), 32),
-        s::owner_requeue((4, 1), 32, 36, (0, 1), 3),
-        s::owner_query((4, 7), 32),
-        s::owner_query((4, 7), 36),
-        // Nor is he moved there.
-        s::requeue((4, 1), 32, 36, 0, 1),
-        s::owner_requeue((4, 1), 32, 36, (1, 0), 9),
-        s::clock(500),
-        s::owner_query((4, 7), 36),
-    ]
+    ])
 }
 
 fn of(events: &[Event]) -> Vec<u8> {
@@ -213,22 +181,12 @@ fn of(events: &[Event]) -> Vec<u8> {
 }
 
 /// The logs that a replay is tried on: the short one to read, those without
-/// priorities, then those with, then those with owners.
+/// priorities, then those with.
 pub fn edges() -> Vec<Vec<u8>> {
     let mut logs = vec![story()];
     logs.extend(without_priorities());
-    logs.extend(with_priorities());
-    logs.extend(with_owners());
+    logs.extend(priorities::edges());
     logs
-}
-
-/// Priorities, but no owners.
-pub fn with_priorities() -> Vec<Vec<u8>> {
-    priorities::edges()
-}
-
-pub fn with_owners() -> Vec<Vec<u8>> {
-    owners::edges()
 }
 
 /// Every refusal at the first record and at a later one, cuts at every byte, logs
@@ -245,7 +203,7 @@ pub fn without_priorities() -> Vec<Vec<u8>> {
                 logs.push([&before[..], &record[..length]].concat());
             }
         }
-        for kind in [0, 10, 81, 128, 255] {
+        for kind in [0, 6, 81, 128, 255] {
             logs.push([&before[..], &[kind]].concat());
             logs.push([&before[..], &[kind; LONGEST]].concat());
         }
@@ -259,7 +217,7 @@ pub fn without_priorities() -> Vec<Vec<u8>> {
     logs.extend(around_a_piece());
     logs.extend((0..20).map(|seed| whole_of(draw, &mut Rng::new(seed), 200)));
     // Few events, since scripts of cut logs cut all of these at every byte.
-    logs.extend((0..500).map(|seed| damaged_of(draw, bad_flag, &mut Rng::new(seed), 12)));
+    logs.extend((0..500).map(|seed| damaged_of(draw, &mut Rng::new(seed), 12)));
     logs
 }
 
@@ -283,7 +241,7 @@ fn around_a_piece() -> Vec<Vec<u8>> {
         filler(PIECE + 1),
         [&filler(PIECE - 13)[..], &call, &after].concat(),
         [&filler(PIECE - 20)[..], &call[..31]].concat(),
-        [&filler(PIECE)[..], &[10], &after].concat(),
+        [&filler(PIECE)[..], &[6], &after].concat(),
     ]
 }
 

@@ -1,6 +1,6 @@
 //! Random scripts: events over fresh, sound and broken tables, and over too
 //! short or too long a memory, with dumps and word prints now and then. Most
-//! stretches mix priorities, some keep all of them equal. Words have owners in many.
+//! stretches mix priorities, some keep all of them equal.
 
 use std::io::{self, Write};
 
@@ -95,20 +95,10 @@ impl<W: Write> Maker<'_, W> {
     }
 
     fn start_broken(&mut self) -> io::Result<u64> {
-        let all = [
-            tables::LIST_BREAKS,
-            tables::RECORD_BREAKS,
-            tables::PRIORITY_BREAKS,
-            tables::owners::BREAKS,
-        ]
-        .concat();
+        let all = [tables::LIST_BREAKS, tables::RECORD_BREAKS, tables::PRIORITY_BREAKS].concat();
         let breaks = self.rng.pick(&all);
-        let mut state = tables::sound(&mut self.rng);
-        if self.rng.percent(15) && tables::owners::differ(&mut self.rng, &mut state) {
-            self.poke_all(&tables::pokes(&state))?;
-            return Ok(6);
-        }
         // Some sound tables have no room for this break; the base always has.
+        let state = tables::sound(&mut self.rng);
         let state =
             tables::broken(state, breaks).or_else(|| tables::broken(tables::base(), breaks));
         if let Some(state) = state {

@@ -1,9 +1,7 @@
 //! Sound tables at random, and each single table rule broken in turn.
 
-pub mod owners;
-
 use super::events::{any_priority, EDGE_U64, GOOD_ADDRESSES, MASKS};
-use crate::model::{State, Thread, NO_ENTRY, NO_OWNER, NO_SLEEP_ENDED, THREADS};
+use crate::model::{State, Thread, NO_ENTRY, NO_SLEEP_ENDED, THREADS};
 use crate::rng::Rng;
 use crate::script::{self, Record};
 
@@ -34,7 +32,6 @@ pub fn with_sleepers(rng: &mut Rng, sleepers: usize) -> State {
         let deadline = deadline_above(rng, state.clock);
         state.join(number, uaddr, bitset, deadline);
     }
-    owners::set(rng, &mut state);
     state
 }
 
@@ -138,7 +135,7 @@ pub const LIST_BREAKS: &[Break] = &[
     |s, _, _| s.list[62] = 0,
 ];
 
-/// The rules of the records, but for the last answer, the priority and the owner.
+/// The rules of the records, but for the last answer and the priority.
 pub const RECORD_BREAKS: &[Break] = &[
     // Waiting, but not listed; listed, but not waiting.
     |s, _, running| s.threads[running] = waiter(4, 1, None),
@@ -255,8 +252,8 @@ fn append(state: &mut State, entry: u8) {
 fn waiter(uaddr: u32, bitset: u32, deadline: Option<u64>) -> Thread {
     let timed = deadline.is_some();
     let deadline = deadline.unwrap_or(0);
-    let (last, owner) = (NO_SLEEP_ENDED, NO_OWNER);
-    Thread { waiting: true, uaddr, bitset, timed, deadline, last, priority: 0, owner }
+    let last = NO_SLEEP_ENDED;
+    Thread { waiting: true, uaddr, bitset, timed, deadline, last, priority: 0 }
 }
 
 fn set_deadline(state: &mut State, number: usize, timed: bool, deadline: u64) {
@@ -297,7 +294,6 @@ pub fn pokes(state: &State) -> Vec<Record> {
         poke(script::DEADLINE, number, thread.deadline, 0);
         poke(script::LAST, number, thread.last as u64, 0);
         poke(script::PRIORITY, number, thread.priority as u64, 0);
-        poke(script::OWNER, number, thread.owner as u64, NO_OWNER as u64);
     }
     records
 }

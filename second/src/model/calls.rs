@@ -1,13 +1,11 @@
 //! The futex call: its tests in the order of the table of answers, then what
-//! each command does. The owner family goes the same way.
+//! each command does.
 
-use super::tables::Row;
 use super::{
     thread_number, word_number, Answer, Call, Refusal, Sleepers, State, CLOCK_BIT, CMP_REQUEUE,
     EAGAIN, EBUSY, EFAULT, ENOMEM, ENOSYS, ESRCH, ETIMEDOUT, FIRST_BAD_ADDRESS, FIRST_CAP,
-    MASK_ZERO, NO_OWNER, OWNER_ASLEEP, PRIVATE_BIT, REQUEUE, SAME_ADDRESS, SECOND_CAP, THREADS,
-    THREADS_PER_PROCESS, UADDR2_NOT_ALIGNED, UADDR_NOT_ALIGNED, WAIT, WAIT_BITSET, WAKE,
-    WAKE_BITSET, WAKE_OP, WOKEN,
+    MASK_ZERO, PRIVATE_BIT, REQUEUE, SAME_ADDRESS, SECOND_CAP, THREADS, UADDR2_NOT_ALIGNED,
+    UADDR_NOT_ALIGNED, WAIT, WAIT_BITSET, WAKE, WAKE_BITSET, WAKE_OP, WOKEN,
 };
 
 /// The highest cap that a wake may carry.
@@ -16,7 +14,7 @@ const HIGHEST_CAP: u32 = 2147483647;
 const ALL_ONES: u32 = u32::MAX;
 
 #[derive(Clone, Copy, PartialEq, Eq)]
-pub enum Command {
+enum Command {
     Wait,
     WaitBitset,
     Wake,
@@ -27,46 +25,8 @@ pub enum Command {
 }
 use Command::*;
 
-/// A call, and what it says of owners.
-pub struct Request {
-    pub call: Call,
-    /// Who is to own the target: an index or `NO_OWNER`. None: the target keeps whom
-    /// it has, as with every plain call.
-    pub named: Option<u8>,
-    /// Whether the released thread owns the first word afterwards. Else that word has
-    /// no owner, as after every plain wake and requeue.
-    pub single: bool,
-}
-
-impl Request {
-    pub fn plain(call: Call) -> Request {
-        Request { call, named: None, single: false }
-    }
-
-    /// Who owns the first word once these have been released there, if others are
-    /// left: of a single one there is only the first.
-    fn heir(&self, released: &Row) -> u8 {
-        match released.entries().first() {
-            Some(&entry) if self.single => entry % THREADS_PER_PROCESS as u8,
-            _ => NO_OWNER,
-        }
-    }
-}
-
 /// Answers one call: the rows of the table of answers after -6 and -9.
-pub fn answer(state: &mut State, words: &mut [u32], request: &Request) -> Result<Answer, Refusal> {
-    let (caller, command) = tested(state, words, &request.call)?;
-    if request.named.is_some_and(|owner| !names_owner(owner)) {
-        return Err(ESRCH.into());
-    }
-    if is_wait(command) {
-        return sleep(state, caller, command, request); // -22 with reason 9, -110, -12
-    }
-    wake_or_requeue(state, words, command, request).map(Answer::Number)
-}
-
-/// The rows up to -11, for the caller's number and the command.
-pub fn tested(state: &State, words: &[u32], call: &Call) -> Result<(usize, Command), Refusal> {
+pub fn call(state: &mut State, words: &mut [u32], call: &Call) -> Result<Answer, Refusal> {
     let caller = thread_number(call.process, call.index).ok_or(ESRCH)?;
     if state.threads[caller].waiting {
         return Err(EBUSY.into());
@@ -86,20 +46,10 @@ pub fn tested(state: &State, words: &[u32], call: &Call) -> Result<(usize, Comma
             return Err(EAGAIN.into());
         }
     }
-    Ok((caller, command))
-}
-
-fn names_owner(owner: u8) -> bool {
-    owner == NO_OWNER || (owner as usize) < THREADS_PER_PROCESS
-}
-
-/// Reason 9: whoever would own a word must not be among those who would be asleep
-/// there.
-fn owner_awake(process: u8, owner: u8, asleep: impl Fn(usize) -> bool) -> Result<(), Refusal> {
-    match thread_number(process, owner) {
-        Some(number) if asleep(number) => Err(Refusal::argument(OWNER_ASLEEP)),
-        _ => Ok(()),
+    if is_wait(command) {
+        return sleep(state, caller, command, call); // -110, -12
     }
+    Ok(Answer::Number(wake_or_requeue(state, words, command, call)))
 }
 
 /// The command of an op, or none for -38: an unknown number, the clock bit,
@@ -172,18 +122,14 @@ fn expected_word(command: Command, call: &Call) -> Option<u32> {
     }
 }
 
-/// A wait whose word matched: the owner is tested, then the deadline and the list's
-/// room, and only then does the caller join the list.
+/// A wait whose word matched: the deadline is tested, then the list's room,
+/// and only then does the caller join the list.
 fn sleep(
     state: &mut State,
     caller: usize,
     command: Command,
-    request: &Request,
+    call: &Call,
 ) -> Result<Answer, Refusal> {
-    let call = &request.call;
-    let here = at(call, None);
-    let owner = request.named.unwrap_or_else(|| here.owner(state));
-    owner_awake(call.process, owner, |number| number == caller || here.holds(state, number))?;
     let deadline = deadline(command, call, state.clock);
     if deadline.is_some_and(|time| time <= state.clock) {
         return Err(ETIMEDOUT.into());
@@ -195,7 +141,6 @@ fn sleep(
     }
     let bitset = if command == WaitBitset { call.val3 } else { ALL_ONES };
     state.join(caller, call.uaddr, bitset, deadline);
-    here.set_owner(state, owner);
     Ok(Answer::Asleep)
 }
 
@@ -210,26 +155,19 @@ fn deadline(command: Command, call: &Call, clock: u64) -> Option<u64> {
     Some(clock.saturating_add(call.timeout))
 }
 
-/// The commands that never sleep. Gives the count; of these only a requeue can
-/// still be refused.
-fn wake_or_requeue(
-    state: &mut State,
-    words: &mut [u32],
-    command: Command,
-    request: &Request,
-) -> Result<i32, Refusal> {
-    let call = &request.call;
-    Ok(match command {
+/// The commands that never sleep, after all tests. Gives the count.
+fn wake_or_requeue(state: &mut State, words: &mut [u32], command: Command, call: &Call) -> i32 {
+    match command {
         WakeOp => wake_op(state, words, call),
-        WakeBitset => release(state, at(call, Some(call.val3)), call.val, request),
+        WakeBitset => release(state, at(call, Some(call.val3)), call.val),
         // REQUEUE reports the released only, CMP_REQUEUE the sum.
-        Requeue => requeue(state, request)?.0,
+        Requeue => requeue(state, call).0,
         CmpRequeue => {
-            let (released, moved) = requeue(state, request)?;
+            let (released, moved) = requeue(state, call);
             released + moved
         }
-        _ => release(state, at(call, None), call.val, request),
-    })
+        _ => release(state, at(call, None), call.val),
+    }
 }
 
 /// The sleepers at uaddr.
@@ -237,37 +175,23 @@ fn at(call: &Call, mask: Option<u32>) -> Sleepers {
     Sleepers { process: call.process, address: call.uaddr, mask }
 }
 
-/// Releases sleepers of a word, which then has another owner or none, also where
-/// nobody was released. Gives how many.
-fn release(state: &mut State, sleepers: Sleepers, cap: u32, request: &Request) -> i32 {
+/// Gives how many it released.
+fn release(state: &mut State, sleepers: Sleepers, cap: u32) -> i32 {
     let taken = sleepers.take(state, cap);
-    let released = state.let_run(&taken, WOKEN);
-    sleepers.set_owner(state, request.heir(&taken));
-    released
+    state.let_run(&taken, WOKEN)
 }
 
 /// The next after those that the first cap releases move, in the order in which
 /// they are taken. Gives how many were released and how many moved.
-fn requeue(state: &mut State, request: &Request) -> Result<(i32, i32), Refusal> {
-    let call = &request.call;
-    let from = at(call, None);
-    let to = Sleepers { address: call.uaddr2, ..from };
-    let (released, moved) =
-        from.in_order(state).parts(call.val as usize, second_cap(call) as usize);
-    let owner = request.named.unwrap_or_else(|| to.owner(state));
-    let comes = |number: usize| moved.entries().contains(&(number as u8));
-    owner_awake(call.process, owner, |number| comes(number) || to.holds(state, number))?;
-    state.unlist(&released);
-    state.unlist(&moved);
-    let counts = (state.let_run(&released, WOKEN), state.put_last(&moved, to.address));
-    from.set_owner(state, request.heir(&released));
-    to.set_owner(state, owner);
-    Ok(counts)
+fn requeue(state: &mut State, call: &Call) -> (i32, i32) {
+    let released = release(state, at(call, None), call.val);
+    let taken = at(call, None).take(state, second_cap(call));
+    (released, state.put_last(&taken, call.uaddr2))
 }
 
 /// WAKE_OP: the second word changes first, then sleepers of the first word are
 /// released, then, if the old second word compares true, those of the second
-/// that are still asleep. Each word where it releases loses its owner.
+/// that are still asleep.
 fn wake_op(state: &mut State, words: &mut [u32], call: &Call) -> i32 {
     let Some(operation) = Operation::of(call.val3) else {
         return ENOSYS; // tested before; nothing has changed here either
@@ -275,14 +199,13 @@ fn wake_op(state: &mut State, words: &mut [u32], call: &Call) -> i32 {
     let place = word_number(call.process, call.uaddr2);
     let old = words[place];
     words[place] = operation.new_word(old);
-    let plain = Request::plain(*call);
     let first = at(call, None);
-    let released = release(state, first, call.val, &plain);
+    let released = release(state, first, call.val);
     if !operation.compares_true(old) {
         return released;
     }
     let second = Sleepers { address: call.uaddr2, ..first };
-    released + release(state, second, second_cap(call), &plain)
+    released + release(state, second, second_cap(call))
 }
 
 /// What a field of so many bits stands for as a signed number: the upper half

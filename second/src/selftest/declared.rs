@@ -1,17 +1,13 @@
-//! The rules of document 01 and requests (i), (ii) and (vi) to (viii) of document 02
+//! The rules of document 01 and requests (i), (ii), (vi) and (vii) of document 02
 //! said once more, in another way: refusals as the table of answers, reasons as a
 //! set, effects as sets of threads taken from queues, WAKE_OP's signed numbers by
 //! moving their bits, a priority as what no sleep and no waking names, the order of
-//! taking by counting who goes before whom, owners as a table of words. It builds whole
-//! new tables and words, to be compared with what `step` left behind.
-
-mod owners;
+//! taking by counting who goes before whom. It builds whole new tables and words,
+//! to be compared with what `step` left behind.
 
 use std::collections::BTreeSet;
 
-use crate::model::{
-    Answer, Call, Event, OwnerRequeue, OwnerWait, Report, State, Thread, THREADS, WORDS,
-};
+use crate::model::{Answer, Call, Event, Report, State, Thread, THREADS, WORDS};
 
 type Outcome = (Report, State, Vec<u32>);
 
@@ -32,27 +28,11 @@ pub fn outcome_by(order: Order, state: &State, words: &[u32], event: &Event) -> 
     if let Event::Query { process } = *event {
         return (Report::plain(panel(state, process)), state.clone(), words.to_vec());
     }
-    let refused = |number, reason| {
-        let report = Report { answer: Answer::Number(number), reason };
-        (report, state.clone(), words.to_vec())
-    };
     if let Some(number) = refusal(state, words, event) {
-        return refused(number, if number == -22 { lowest_reason(event) } else { 0 });
+        let reason = if number == -22 { lowest_reason(event) } else { 0 };
+        let report = Report { answer: Answer::Number(number), reason };
+        return (report, state.clone(), words.to_vec());
     }
-    let (answer, mut after, new_words) = done(order, state, words, event);
-    owners::settle(state, words, event, &mut after);
-    // Judged on what it would leave, and before its deadline is.
-    if owners::asleep_at_own(&after) {
-        return refused(-22, 9);
-    }
-    if late(state, event) {
-        return refused(-110, 0);
-    }
-    (Report::plain(answer), after, new_words)
-}
-
-/// What an event that no row up to -11 refuses answers and leaves, but for owners.
-fn done(order: Order, state: &State, words: &[u32], event: &Event) -> (Answer, State, Vec<u32>) {
     let (mut after, mut new_words) = (state.clone(), words.to_vec());
     let answer = match *event {
         Event::Call(ref call) => effect(order, state, &mut after, &mut new_words, call),
@@ -77,53 +57,9 @@ fn done(order: Order, state: &State, words: &[u32], event: &Event) -> (Answer, S
             threads.filter(|(t, _)| named(*t)).for_each(|(_, thread)| thread.priority = priority);
             Answer::Number(0)
         }
-        _ => owner_effect(order, state, &mut after, event),
+        Event::Query { .. } => unreachable!(),
     };
-    (answer, after, new_words)
-}
-
-/// The same of kinds 6 to 9.
-fn owner_effect(order: Order, state: &State, after: &mut State, event: &Event) -> Answer {
-    match *event {
-        Event::OwnerWait(OwnerWait { process, index, address, flag, deadline, .. }) => {
-            let caller = 8 * process as usize + index as usize;
-            fall_asleep(after, caller, address, !0, (flag > 0).then_some(deadline.into()))
-        }
-        Event::OwnerWake { process, address, .. } => {
-            let here = queue_at(state, process, address);
-            end(after, &with_turns(order, state, &here, (0, 1)), 1)
-        }
-        Event::OwnerRequeue(OwnerRequeue {
-            process,
-            address,
-            wake_cap,
-            target,
-            move_cap,
-            single,
-            ..
-        }) => {
-            let here = queue_at(state, process, address);
-            let first = if single > 0 { 1 } else { wake_cap as usize };
-            let released = with_turns(order, state, &here, (0, first));
-            let moved = with_turns(order, state, &here, (first, first + move_cap as usize));
-            requeue(after, &released, &moved, target);
-            Answer::Number((released.len() + moved.len()) as i32)
-        }
-        Event::OwnerQuery { process, address, .. } => {
-            Answer::Number(owners::owner_of(state, process, address).into())
-        }
-        _ => unreachable!(),
-    }
-}
-
-/// The row of -110.
-fn late(state: &State, event: &Event) -> bool {
-    let deadline = match *event {
-        Event::Call(ref call) if [0, 9].contains(&(call.op & !128)) => deadline(state, call),
-        Event::OwnerWait(wait) if wait.flag > 0 => Some(wait.deadline.into()),
-        _ => None,
-    };
-    deadline.is_some_and(|time| time <= state.clock.into())
+    (Report::plain(answer), after, new_words)
 }
 
 fn panel(state: &State, process: u8) -> Answer {
@@ -180,19 +116,18 @@ fn sound(state: &State) -> bool {
         && rest.iter().all(|&entry| entry == 255)
         && (0..THREADS).all(|t| times(t) == state.threads[t].waiting as usize)
         && state.threads.iter().all(|t| sound_record(t, state.clock))
-        && owners::sound(state)
 }
 
 fn sound_record(thread: &Thread, clock: u64) -> bool {
-    let Thread { waiting, uaddr, bitset, timed, deadline, last, priority, .. } = *thread;
+    let Thread { waiting, uaddr, bitset, timed, deadline, last, priority } = *thread;
     let zeros = (uaddr, bitset, timed, deadline) == (0, 0, false, 0);
     let aligned = (0..4096).step_by(4).any(|address| address == uaddr);
     let ahead = (!timed && deadline == 0) || (timed && deadline > clock);
     last < 4 && priority < 32 && if waiting { aligned && bitset > 0 && ahead } else { zeros }
 }
 
-/// The first row that applies, up to -11 and the bad owner. Later rows are asked only
-/// if no earlier one applied, so they may count on it.
+/// The first row that applies. Later rows are asked only if no earlier one
+/// applied, so they may count on it.
 fn refusal(state: &State, words: &[u32], event: &Event) -> Option<i32> {
     if words.len() != WORDS {
         return Some(-6);
@@ -209,7 +144,7 @@ fn refusal(state: &State, words: &[u32], event: &Event) -> Option<i32> {
         Event::Interrupt { process, index } if process > 7 || index > 7 => Some(-3),
         Event::SetPriority { process, index, .. } if process > 7 || index > 7 => Some(-3),
         Event::SetPriority { priority, .. } if priority >> 5 != 0 => Some(-22),
-        _ => owners::refusal(state, words, event),
+        _ => None,
     }
 }
 
@@ -227,7 +162,7 @@ fn call_refusal(state: &State, words: &[u32], call: &Call) -> Option<i32> {
         || ([3, 4].contains(&command) && call.uaddr == call.uaddr2);
     let differs = |expected| words[word(call.process, call.uaddr)] != expected;
     // -12 has no row, for it never comes (`never`).
-    let rows: [(i32, &dyn Fn() -> bool); 7] = [
+    let rows: [(i32, &dyn Fn() -> bool); 8] = [
         (-3, &|| call.process > 7 || call.index > 7),
         (-16, &|| state.threads[caller].waiting),
         (-38, &|| ![0, 1, 3, 4, 5, 9, 10].contains(&command)),
@@ -235,6 +170,7 @@ fn call_refusal(state: &State, words: &[u32], call: &Call) -> Option<i32> {
         (-14, &|| used.iter().any(|&address| address > 4095)),
         (-38, &|| command == 5 && (op > 4 || cmp > 5)),
         (-11, &|| (wait && differs(call.val)) || (command == 4 && differs(call.val3))),
+        (-110, &|| wait && deadline(state, call).is_some_and(|d| d <= state.clock as u128)),
     ];
     rows.iter().find(|(_, applies)| applies()).map(|(number, _)| *number)
 }
@@ -252,7 +188,7 @@ fn lowest_reason(event: &Event) -> u8 {
         Event::Store { .. } => BTreeSet::from([4]),
         Event::Clock { .. } => BTreeSet::from([7]),
         Event::SetPriority { .. } => BTreeSet::from([8]),
-        _ => owners::reasons(event).into_iter().collect(),
+        _ => BTreeSet::new(),
     };
     applying.first().copied().unwrap_or(0)
 }
@@ -317,11 +253,7 @@ fn effect(
 ) -> Answer {
     let mut here = queue_at(state, call.process, call.uaddr);
     match call.op & !128 {
-        0 | 9 => {
-            let caller = 8 * call.process as usize + call.index as usize;
-            let mask = if call.op & 9 == 9 { call.val3 } else { !0 };
-            fall_asleep(after, caller, call.uaddr, mask, deadline(state, call))
-        }
+        0 | 9 => fall_asleep(after, call),
         1 => end(after, &with_turns(order, state, &here, (0, call.val as usize)), 1),
         10 => {
             here.retain(|&t| state.threads[t].bitset & call.val3 != 0);
@@ -339,17 +271,13 @@ fn effect(
     }
 }
 
-fn fall_asleep(
-    after: &mut State,
-    caller: usize,
-    address: u32,
-    mask: u32,
-    deadline: Option<u128>,
-) -> Answer {
+fn fall_asleep(after: &mut State, call: &Call) -> Answer {
+    let caller = 8 * call.process as usize + call.index as usize;
+    let deadline = deadline(after, call);
     let thread = &mut after.threads[caller];
     thread.waiting = true;
-    thread.uaddr = address;
-    thread.bitset = mask;
+    thread.uaddr = call.uaddr;
+    thread.bitset = if call.op & 9 == 9 { call.val3 } else { !0 };
     thread.timed = deadline.is_some();
     thread.deadline = deadline.map_or(0, |time| time as u64);
     let listed = [queue(after), vec![caller]].concat();

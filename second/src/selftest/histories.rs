@@ -47,10 +47,6 @@ fn struck(event: &Event, process: u8) -> bool {
         Event::Store { process: named, .. } => named != process,
         Event::Interrupt { process: named, .. } => named != process,
         Event::SetPriority { process: named, .. } => named != process,
-        Event::OwnerWait(wait) => wait.process != process,
-        Event::OwnerWake { process: named, .. } => named != process,
-        Event::OwnerRequeue(requeue) => requeue.process != process,
-        Event::OwnerQuery { process: named, .. } => named != process,
         Event::Query { process: named } => named != process,
         Event::Clock { .. } => false,
     }
@@ -128,8 +124,8 @@ fn frequent(checks: &mut Checks) {
     let mut rng = Rng::new(99);
     let mut display = Display::fresh();
     let mut seen = BTreeMap::new();
-    let mut reasons = [0; 10];
-    for round in 0..48000 {
+    let mut reasons = [0; 9];
+    for round in 0..20000 {
         if round % 500 == 0 {
             display.state = tables::sound(&mut rng);
         }
@@ -154,7 +150,7 @@ fn frequent_comparisons(checks: &mut Checks) {
     let mut rng = Rng::new(100);
     let mut display = Display::fresh();
     let mut seen = BTreeMap::new();
-    for round in 0..450_000 {
+    for round in 0..200_000 {
         if round % 500 == 0 {
             display.state = tables::sound(&mut rng);
         }

@@ -21,11 +21,10 @@ fn places(checks: &mut Checks) {
     state.count = 0x1817161514131211;
     state.list[1] = 42;
     let (uaddr, bitset, deadline) = (0x24232221, 0x34333231, 0x4847464544434241);
-    let (last, priority, owner) = (3, 0x51, 0x61);
+    let (last, priority) = (3, 0x51);
     state.threads[63] =
-        Thread { waiting: true, uaddr, bitset, timed: true, deadline, last, priority, owner };
+        Thread { waiting: true, uaddr, bitset, timed: true, deadline, last, priority };
     state.threads[0].priority = 31;
-    state.threads[0].owner = 7;
     let bytes = layout::encode(&state);
     checks.equal("clock", &bytes[0..8], &[1, 2, 3, 4, 5, 6, 7, 8]);
     checks.equal("count", bytes[8..16].first(), Some(&0x11));
@@ -37,14 +36,9 @@ fn places(checks: &mut Checks) {
     checks.equal("bitset", &bytes[780..785], &[0x31, 0x32, 0x33, 0x34, 0]);
     checks.equal("deadline", &bytes[1288..1296], &[0x41, 0x42, 0x43, 0x44, 0x45, 0x46, 0x47, 0x48]);
     checks.equal("first priority", &bytes[1296..1298], &[31, 0]);
-    checks.equal("last priority", &bytes[1358..1360], &[0, 0x51]);
-    checks.equal("first owner", &bytes[1360..1362], &[7, 255]);
-    checks.equal("last owner", &bytes[1422..], &[255, 0x61]);
+    checks.equal("last priority", &bytes[1358..], &[0, 0x51]);
     let mut words = vec![0; WORD_BYTES];
     let mut fresh = layout::encode(&State::fresh());
-    let blank = |place| matches!(place, 16..=79 | 1360..=1423);
-    let by_hand: Vec<u8> = (0..1424).map(|place| if blank(place) { 255 } else { 0 }).collect();
-    checks.holds("fresh", fresh[..] == by_hand);
     checks.equal("store", layout::store(&mut fresh, &mut words, 7, 4092, 0x04030201), 0);
     checks.equal("word", &words[WORD_BYTES - 5..], &[0, 1, 2, 3, 4]);
 }
@@ -54,8 +48,7 @@ fn round_trips(checks: &mut Checks) {
     for round in 0..500 {
         let mut state = tables::sound(&mut rng);
         if round % 2 == 0 {
-            let breaks =
-                [tables::RECORD_BREAKS, tables::PRIORITY_BREAKS, tables::owners::BREAKS].concat();
+            let breaks = [tables::RECORD_BREAKS, tables::PRIORITY_BREAKS].concat();
             let breaks = rng.pick(&breaks);
             state = tables::broken(state, breaks).unwrap_or_else(tables::base);
         }
@@ -71,8 +64,8 @@ fn round_trips(checks: &mut Checks) {
 /// The words' length is tested before the tables'.
 fn lengths(checks: &mut Checks) {
     let fresh = layout::encode(&State::fresh());
-    // 1,296 bytes were tables before there were priorities, 1,360 before owners.
-    for length in [0, 1, 1296, 1360, TABLE_BYTES - 1, TABLE_BYTES + 1] {
+    // 1,296 bytes were tables before there were priorities.
+    for length in [0, 1, 1296, TABLE_BYTES - 1, TABLE_BYTES + 1] {
         let mut tables = vec![0; length];
         let mut words = vec![0; WORD_BYTES];
         checks.equal("tables' length", layout::clock(&mut tables, &mut words, 0), -9);
@@ -80,10 +73,6 @@ fn lengths(checks: &mut Checks) {
         checks.equal("words first", layout::clock(&mut tables, &mut words[1..], 0), -6);
         let priority = layout::set_priority(&mut tables, &mut words, 8, 8, 32);
         checks.equal("tables' length", priority, -9);
-        let query = layout::get_owner(&mut tables, &mut words, 8, 8, 1);
-        checks.equal("tables' length", query, -9);
-        let query = layout::get_owner(&mut tables, &mut words[1..], 8, 8, 1);
-        checks.equal("words first", query, -6);
     }
     for length in [0, WORD_BYTES - 4, WORD_BYTES - 1, WORD_BYTES + 1, WORD_BYTES + 4] {
         let mut tables = fresh.to_vec();
@@ -97,11 +86,8 @@ fn lengths(checks: &mut Checks) {
 fn strange_bytes(checks: &mut Checks) {
     let fresh = layout::encode(&tables::base());
     let flags = [(80, 2), (100, 2), (143, 255), (144, 2), (207, 128), (208, 4), (271, 255)];
-    // A high priority or owner stands for something, but breaks a rule; here threads
-    // 0, 1 and 9 sleep, 0 and 1 at one word.
-    let priorities = [(1296, 32), (1297, 255), (1359, 64)];
-    let owners = [(1360, 0), (1360, 8), (1361, 3), (1362, 5), (1369, 254), (1423, 7)];
-    for (place, byte) in flags.into_iter().chain(priorities).chain(owners) {
+    // A high priority stands for something, but breaks a rule.
+    for (place, byte) in flags.into_iter().chain([(1296, 32), (1297, 255), (1359, 64)]) {
         let mut tables = fresh;
         tables[place] = byte;
         let before = tables;
@@ -140,19 +126,6 @@ fn on_bytes(tables: &mut [u8], words: &mut [u8], event: &Event) -> Answer {
         Event::Interrupt { process, index } => layout::interrupt(tables, words, process, index),
         Event::SetPriority { process, index, priority } => {
             layout::set_priority(tables, words, process, index, priority)
-        }
-        Event::OwnerWait(w) => layout::owner_wait(
-            tables, words, w.process, w.index, w.address, w.value, w.flag, w.deadline, w.owner,
-        ),
-        Event::OwnerWake { process, index, address } => {
-            layout::wake_single_owner(tables, words, process, index, address)
-        }
-        Event::OwnerRequeue(r) => layout::owner_requeue(
-            tables, words, r.process, r.index, r.address, r.wake_cap, r.value, r.target,
-            r.move_cap, r.owner, r.single,
-        ),
-        Event::OwnerQuery { process, index, address } => {
-            layout::get_owner(tables, words, process, index, address)
         }
         Event::Query { process } => {
             let (bits, count, lowest) = layout::query(tables, process);

@@ -80,7 +80,7 @@ fn histories(checks: &mut Checks) {
             1 => on(&tables::sound(&mut rng)),
             more => on(&tables::with_sleepers(&mut rng, 58 + more as usize)),
         };
-        for _ in 0..600 {
+        for _ in 0..300 {
             let event = next(&mut rng, &display);
             lot.apply(&mut display, event);
         }
@@ -117,13 +117,12 @@ fn nearly_full(checks: &mut Checks) {
         checks.holds("nearly full, sound", state.rules_hold());
         checks.equal("nearly full, count", state.count, sleepers as u64);
         for number in 0..THREADS {
-            for event in edges::each_with_owners_by(thread(number)) {
+            for event in edges::each_kind_by(thread(number)) {
                 lot.apply(&mut on(&state), event);
             }
             let waits = state.threads[number].waiting;
             let want = if waits { Answer::Number(-16) } else { Answer::Asleep };
-            // Nobody sleeps there, so nobody owns it.
-            let got = lot.apply(&mut on(&state), s::wait(thread(number), 4080, 0));
+            let got = lot.apply(&mut on(&state), s::wait(thread(number), 4092, 0));
             checks.equal("nearly full, wait", got, want);
         }
         for _ in 0..200 {
@@ -143,7 +142,7 @@ fn overfull(checks: &mut Checks) {
         for state in tables::overfull(running) {
             checks.holds("overfull", state.count >= 64 && !state.threads[running].waiting);
             let mut display = on(&state);
-            for event in edges::each_with_owners_by(thread(running)) {
+            for event in edges::each_kind_by(thread(running)) {
                 let query = matches!(event, Event::Query { .. });
                 let want = if query { Answer::Panel(0, 0, 8) } else { Answer::Number(-9) };
                 checks.equal("overfull, answer", lot.apply(&mut display, event), want);
@@ -165,7 +164,7 @@ fn damaged(checks: &mut Checks) {
         // Of 63 the one that is awake, of 64 the one that the damage wakes.
         let callers = [awake(&state), rng.below(64) as usize];
         for caller in callers.map(thread) {
-            for event in edges::each_with_owners_by(caller) {
+            for event in edges::each_kind_by(caller) {
                 lot.apply(&mut on(&state), event);
             }
         }

@@ -122,7 +122,7 @@ fn level(state: &mut State, priority: u8) {
 /// answer and all that it leaves are as they were by arrival.
 fn equal_priorities(checks: &mut Checks) {
     let mut chosen = 0;
-    for seed in 0..260 {
+    for seed in 0..220 {
         let mut rng = Rng::new(seed ^ 0x7007);
         let mut display = Display { state: tables::sound(&mut rng), ..Display::fresh() };
         for _ in 0..150 {
@@ -224,8 +224,7 @@ fn shown_by_logs(checks: &mut Checks) {
     };
     let logs = logs::edges();
     checks.holds("the log to read", differs(&&logs[0]));
-    let without = logs::without_priorities();
-    let with = logs::with_priorities();
+    let (without, with) = logs[1..].split_at(logs::without_priorities().len());
     checks.holds("logs without priorities", !without.iter().any(|log| differs(&log)));
     let long = || with.iter().filter(|log| log.len() > 1000);
     checks.equal("long logs", (long().count(), long().filter(differs).count()), (7, 7));

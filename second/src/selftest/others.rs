@@ -3,7 +3,7 @@
 
 use super::{Checks, Display};
 use crate::generate::tables;
-use crate::model::{Answer, Event, State, Thread, INTERRUPTED, NO_ENTRY, WORDS};
+use crate::model::{Answer, State, Thread, INTERRUPTED, NO_ENTRY, WORDS};
 use crate::rng::Rng;
 use crate::shorthand as s;
 
@@ -25,42 +25,24 @@ fn fresh(checks: &mut Checks) {
     checks.holds("fresh is sound", state.rules_hold());
 }
 
-/// Each kind that takes words, mostly such as sound tables would refuse, too.
-fn refused_anyway() -> [Event; 10] {
-    [
+/// Sound tables stay sound, and every break breaks them: -9 from each event
+/// that takes words, 0, 0, 8 from a query, nothing changed.
+fn broken_rules(checks: &mut Checks) {
+    checks.holds("base is sound", tables::base().rules_hold());
+    let mut rng = Rng::new(1);
+    let breaks =
+        [tables::LIST_BREAKS, tables::RECORD_BREAKS, tables::LAST_BREAKS, tables::PRIORITY_BREAKS]
+            .concat();
+    let events = [
         s::store(8, 1, 1),
         s::clock(0),
         s::interrupt((8, 8)),
         s::set_priority((8, 8), 32),
         s::set_priority((0, 0), 31),
         s::wait((8, 8), 1, 1),
-        s::owner_wait((8, 8), 1, 1, 8),
-        s::owner_wake((8, 8), 1),
-        s::owner_requeue((8, 8), 1, 1, (1 << 31, 1 << 31), 8),
-        s::owner_query((8, 8), 1),
-    ]
-}
-
-/// Sound tables stay sound, and every break breaks them: -9 from each event
-/// that takes words, 0, 0, 8 from a query, nothing changed.
-fn broken_rules(checks: &mut Checks) {
-    checks.holds("base is sound", tables::base().rules_hold());
-    checks.holds("base with owners is sound", tables::owners::base().rules_hold());
-    let mut rng = Rng::new(1);
-    let breaks = [
-        tables::LIST_BREAKS,
-        tables::RECORD_BREAKS,
-        tables::LAST_BREAKS,
-        tables::PRIORITY_BREAKS,
-        tables::owners::BREAKS,
-    ]
-    .concat();
+    ];
     for round in 0..100 {
-        let sound = match round {
-            0 => tables::base(),
-            1 => tables::owners::base(),
-            _ => tables::sound(&mut rng),
-        };
+        let sound = if round == 0 { tables::base() } else { tables::sound(&mut rng) };
         checks.holds("sound", sound.rules_hold());
         for (which, &one) in breaks.iter().enumerate() {
             let Some(state) = tables::broken(sound.clone(), one) else {
@@ -68,7 +50,7 @@ fn broken_rules(checks: &mut Checks) {
             };
             checks.holds(&format!("break {which}"), !state.rules_hold());
             let mut display = Display { state: state.clone(), words: vec![0; WORDS] };
-            for event in refused_anyway() {
+            for event in events {
                 checks.equal("broken", display.text(event), "-9".into());
             }
             checks.equal("broken", display.text(s::query(0)), "0 0 8".into());
@@ -141,10 +123,6 @@ fn memory_lengths(checks: &mut Checks) {
             s::clock(0),
             s::interrupt((9, 9)),
             set_priority,
-            s::owner_wait((9, 9), 1, 1, 8),
-            s::owner_wake((9, 9), 1),
-            s::owner_requeue((9, 9), 1, 1, (1 << 31, 1 << 31), 8),
-            s::owner_query((9, 9), 1),
         ] {
             checks.equal("memory length", display.text(event), "-6".into());
         }

@@ -6,10 +6,10 @@
 use std::collections::BTreeMap;
 
 use super::{declared, Checks, Display};
-use crate::generate::{aimed, events, owners, tables};
+use crate::generate::{aimed, events, tables};
 use crate::model::{
-    Answer, Call, Event, OwnerRequeue, State, Thread, CMP_REQUEUE, NO_OWNER, PRIVATE_BIT, REQUEUE,
-    THREADS, WAKE, WAKE_BITSET, WAKE_OP,
+    Answer, Call, Event, State, CMP_REQUEUE, PRIVATE_BIT, REQUEUE, THREADS, WAKE, WAKE_BITSET,
+    WAKE_OP,
 };
 use crate::rng::Rng;
 
@@ -19,64 +19,32 @@ type Wrong = Option<&'static str>;
 pub fn run(checks: &mut Checks) {
     let mut rng = Rng::new(0x7009);
     let mut seen = BTreeMap::new();
-    for _ in 0..2200 {
+    for _ in 0..900 {
         let mut display = Display { state: tables::sound(&mut rng), ..Display::fresh() };
         for _ in 0..60 {
             let event = next(&mut rng, &display);
             let before = display.clone();
             let answer = display.answer(event);
-            if let (Some((by, call)), Answer::Number(number @ 0..)) = (like(&event), answer) {
+            if let (Event::Call(call), Answer::Number(number @ 0..)) = (event, answer) {
                 let taking = Taking::of(&before, &display.state, &call);
-                checks.equal(&format!("{event:?}"), taking.wrong(number as usize), None);
+                checks.equal(&format!("{call:?}"), taking.wrong(number as usize), None);
                 for name in taking.seen() {
-                    *seen.entry((by, name)).or_insert(0) += 1;
+                    *seen.entry((call.op & !PRIVATE_BIT, name)).or_insert(0) += 1;
                 }
             }
         }
     }
-    for (by, name) in due() {
-        let times = seen.get(&(by, name)).copied().unwrap_or(0);
-        checks.holds(&format!("{by:?}: {name} is frequent, {times}"), times >= 50);
-    }
-}
-
-/// What takes sleepers: a command, or a kind of the owner family.
-#[derive(Clone, Copy, Debug, PartialEq, Eq, PartialOrd, Ord)]
-enum By {
-    Command(u32),
-    OwnerWake,
-    OwnerRequeue,
-    SingleRequeue,
-}
-
-/// The call that takes just whom an event takes.
-fn like(event: &Event) -> Option<(By, Call)> {
-    match *event {
-        Event::Call(call) => Some((By::Command(call.op & !PRIVATE_BIT), call)),
-        Event::OwnerWake { process, index, address } => {
-            let call = Call { process, index, op: WAKE, uaddr: address, val: 1, ..Call::default() };
-            Some((By::OwnerWake, call))
-        }
-        Event::OwnerRequeue(requeue) => {
-            let OwnerRequeue { process, index, address, wake_cap, target, .. } = requeue;
-            let (by, val) = match requeue.single {
-                0 => (By::OwnerRequeue, wake_cap),
-                _ => (By::SingleRequeue, 1),
-            };
-            let timeout = requeue.move_cap.into();
-            let first = Call { process, index, uaddr: address, val, ..Call::default() };
-            Some((by, Call { op: CMP_REQUEUE, timeout, uaddr2: target, ..first }))
-        }
-        _ => None,
+    for (command, name) in due() {
+        let times = seen.get(&(command, name)).copied().unwrap_or(0);
+        checks.holds(&format!("{command}: {name} is frequent, {times}"), times >= 50);
     }
 }
 
 fn next(rng: &mut Rng, display: &Display) -> Event {
     let (state, words) = (&display.state, &display.words);
     let aimed = match rng.below(10) {
-        0..=3 => aimed::call(rng, state, words),
-        4 => aimed::one_word(rng, state, words),
-        5..=6 => owners::at_sleeper(rng, state, words),
+        0..=4 => aimed::call(rng, state, words),
+        5 => aimed::one_word(rng, state, words),
         _ => None,
     };
     aimed.unwrap_or_else(|| events::next(rng, state, words))
@@ -87,24 +55,16 @@ const TIE: &str = "an equal that came later is left";
 const REORDERS: &str = "moves in another order than the list's";
 const TIED_MOVE: &str = "moves two equals";
 
-/// What each has to show often.
-fn due() -> Vec<(By, &'static str)> {
+/// What each command has to show often.
+fn due() -> Vec<(u32, &'static str)> {
     let mut due = Vec::new();
-    let wakes = [WAKE, WAKE_BITSET, WAKE_OP].map(By::Command);
-    let requeues = [REQUEUE, CMP_REQUEUE].map(By::Command);
-    let requeues = requeues.into_iter().chain([By::OwnerRequeue, By::SingleRequeue]);
-    for by in wakes.into_iter().chain([By::OwnerWake]).chain(requeues.clone()) {
-        due.extend([(by, OVERTAKES), (by, TIE)]);
+    for command in [WAKE, WAKE_BITSET, REQUEUE, CMP_REQUEUE, WAKE_OP] {
+        due.extend([(command, OVERTAKES), (command, TIE)]);
     }
-    for by in requeues {
-        due.extend([(by, REORDERS), (by, TIED_MOVE)]);
+    for command in [REQUEUE, CMP_REQUEUE] {
+        due.extend([(command, REORDERS), (command, TIED_MOVE)]);
     }
     due
-}
-
-/// A record but for the owner of its word, who has his own checks.
-fn ownerless(thread: Thread) -> Thread {
-    Thread { owner: NO_OWNER, ..thread }
 }
 
 fn listed(state: &State) -> &[u8] {
@@ -136,12 +96,11 @@ pub fn candidates(state: &State, call: &Call) -> Vec<u8> {
 /// Whether an event took some of those whom it could take at its first word, and
 /// left some.
 pub fn leaves_some(before: &State, after: &State, event: &Event) -> bool {
-    let Some((_, call)) = like(event) else {
+    let Event::Call(call) = event else {
         return false;
     };
-    let found = candidates(before, &call);
-    let stays =
-        |t: &&u8| ownerless(after.threads[**t as usize]) == ownerless(before.threads[**t as usize]);
+    let found = candidates(before, call);
+    let stays = |t: &&u8| after.threads[**t as usize] == before.threads[**t as usize];
     let left = found.iter().filter(stays).count();
     left > 0 && left < found.len()
 }
@@ -263,9 +222,7 @@ impl Taking<'_> {
     fn wrong_elsewhere(&self) -> Wrong {
         let taken: Vec<u8> = self.words.iter().flat_map(Word::taken).collect();
         let untouched = |number: &usize| !taken.contains(&(*number as u8));
-        let same = |number: usize| {
-            ownerless(self.before.threads[number]) == ownerless(self.after.threads[number])
-        };
+        let same = |number| self.before.threads[number] == self.after.threads[number];
         if !(0..THREADS).filter(untouched).all(same) {
             return Some("another record");
         }

@@ -3,7 +3,7 @@
 
 use std::collections::HashSet;
 
-use super::logs::{bad_flags, each_kind, record};
+use super::logs::{flagged, record};
 use super::{one_go, Checks};
 use crate::generate::logs;
 use crate::model::Event;
@@ -52,22 +52,19 @@ fn sentences(checks: &mut Checks) {
 
     let mut reader = Reader::start();
     let want = (vec![s::interrupt((1, 2))], bad);
-    checks.equal("a bad kind at once", take(&mut reader, &[4, 1, 2, 10, 4, 1, 2]), want);
+    checks.equal("a bad kind at once", take(&mut reader, &[4, 1, 2, 9, 4, 1, 2]), want);
     checks.equal("the rest is dropped", reader, ended(Ended::Unreadable));
     checks.equal("over stays -71", Some(reader.over()), bad);
     checks.equal("-71 again", take(&mut reader, &[4, 1, 2]), (vec![], bad));
 
-    for record in bad_flags().iter().map(record) {
-        // All but the last byte, which of a requeue is the flag itself.
-        let (held, last) = record.split_at(record.len() - 1);
-        let mut reader = Reader::start();
-        checks.equal("a bad flag is held", take(&mut reader, held), (vec![], None));
-        checks.equal("a bad flag is held", reader, holding(held));
-        let mut other = reader;
-        checks.equal("cut comes first", other.over(), Ended::Cut);
-        checks.equal("a bad flag", take(&mut reader, &[last[0], 4, 1, 2]), (vec![], bad));
-        checks.equal("a bad flag", reader, ended(Ended::Unreadable));
-    }
+    let call = record(&flagged(2));
+    let mut reader = Reader::start();
+    checks.equal("a bad flag is held", take(&mut reader, &call[..31]), (vec![], None));
+    checks.equal("a bad flag is held", reader, holding(&call[..31]));
+    let mut other = reader;
+    checks.equal("cut comes first", other.over(), Ended::Cut);
+    checks.equal("a bad flag", take(&mut reader, &[0, 4, 1, 2]), (vec![], bad));
+    checks.equal("a bad flag", reader, ended(Ended::Unreadable));
 
     let mut reader = Reader::start();
     checks.equal("clean end", (reader.over(), reader), (Ended::Clean, ended(Ended::Clean)));
@@ -102,7 +99,7 @@ fn reads_as(log: &[u8], cuts: &[usize], want: &(Vec<Event>, Ended)) -> bool {
 
 fn answers_forever(mut reader: Reader, ended: Ended) -> bool {
     let before = reader;
-    let pieces = [&[][..], &[4, 1, 2], &[4], &[10]];
+    let pieces = [&[][..], &[4, 1, 2], &[4], &[9]];
     pieces.iter().all(|piece| {
         let again = take(&mut reader, piece) == (vec![], Some(ended)) && reader.over() == ended;
         again && reader == before
@@ -164,7 +161,7 @@ fn strings(alphabet: &[u8], length: usize) -> Vec<Vec<u8>> {
 /// Of the states with few held bytes over a small alphabet, those that strings
 /// leave are taken and all others are refused.
 fn short_strings(checks: &mut Checks) {
-    let alphabet = [0, 1, 2, 4, 5, 10];
+    let alphabet = [0, 1, 2, 4, 5, 6];
     let mut left = HashSet::new();
     for string in strings(&alphabet, 4) {
         let mut reader = Reader::start();
@@ -203,8 +200,11 @@ fn refused(mut reader: Reader) -> bool {
 
 /// Every kind with every count, and one byte changed behind the held ones.
 fn every_count(checks: &mut Checks) {
-    let good = each_kind().map(|(event, _)| event);
-    for record in good.iter().chain(&bad_flags()).map(record) {
+    let store = s::store(9, u32::MAX, 7);
+    let clock = s::clock(u64::MAX);
+    let set = s::set_priority((9, 9), 99);
+    let events = [flagged(1), flagged(255), store, clock, s::interrupt((9, 9)), set];
+    for record in events.iter().map(record) {
         for count in 0..record.len() {
             let mut reader = Reader::start();
             reader.piece(&record[..count], |_| {});
@@ -224,7 +224,7 @@ fn every_count(checks: &mut Checks) {
             checks.holds("too many held", refused(reader));
         }
     }
-    for kind in (0..=255).filter(|kind| !(1..=9).contains(kind)) {
+    for kind in (0..=255).filter(|kind| !(1..=5).contains(kind)) {
         checks.holds("bad kind held", refused(holding(&[kind])));
     }
 }

@@ -7,7 +7,7 @@ use std::collections::BTreeMap;
 use super::logs::record;
 use super::{replayed, Checks, Display};
 use crate::generate::{events, tables};
-use crate::model::{Answer, Call, Event, State, Thread, OWNER_ASLEEP, THREADS, WORDS};
+use crate::model::{Answer, Call, Event, State, Thread, THREADS, WORDS};
 use crate::rng::Rng;
 use crate::shorthand::{self as s, Who};
 
@@ -224,10 +224,8 @@ fn only_by_its_event(checks: &mut Checks) {
 
 /// With other priorities each event reports the same, and leaves the same words and
 /// clock and as many sleepers at each word. What takes nobody by rank leaves the same
-/// tables, too. A requeue alone may be refused by one order and not by the other, since
-/// it must not move an owner onto his own word.
+/// tables, too.
 fn only_on_the_order(checks: &mut Checks) {
-    let mut refused = 0;
     for seed in 0..60 {
         let mut rng = Rng::new(seed ^ 0x6007);
         let mut display = Display { state: tables::sound(&mut rng), ..Display::fresh() };
@@ -238,37 +236,16 @@ fn only_on_the_order(checks: &mut Checks) {
             tables::set_priorities(&mut rng, &mut others.state);
             let report = display.report(event);
             for other in [&mut none, &mut others] {
-                let got = other.report(event);
-                if moves(&event) && (got.reason == OWNER_ASLEEP) != (report.reason == OWNER_ASLEEP)
-                {
-                    refused += 1;
-                    continue;
-                }
-                checks.equal("no effect", got, report);
-                let same = match takes(&event) {
-                    true => queues(&other.state) == queues(&display.state),
-                    false => stripped(&other.state) == stripped(&display.state),
+                checks.equal("no effect", other.report(event), report);
+                let same = match event {
+                    Event::Call(call) if ![0, 9].contains(&(call.op & !128)) => {
+                        queues(&other.state) == queues(&display.state)
+                    }
+                    _ => stripped(&other.state) == stripped(&display.state),
                 };
                 checks.holds("no effect, left", same && other.words == display.words);
             }
         }
-    }
-    checks.holds(&format!("refused by one order, {refused}"), (10..200).contains(&refused));
-}
-
-/// Whether an event is a requeue.
-fn moves(event: &Event) -> bool {
-    match event {
-        Event::Call(call) => [3, 4].contains(&(call.op & !128)),
-        event => matches!(event, Event::OwnerRequeue(_)),
-    }
-}
-
-/// Whether an event takes sleepers by rank.
-fn takes(event: &Event) -> bool {
-    match event {
-        Event::Call(call) => ![0, 9].contains(&(call.op & !128)),
-        event => moves(event) || matches!(event, Event::OwnerWake { .. }),
     }
 }
 
@@ -308,7 +285,7 @@ fn bytes(checks: &mut Checks) {
     let lines = "0\n-22\n-3\n-3\n0\n";
     checks.equal("replayed", replayed(&log), lines.into());
     checks.equal("cut", replayed(&log[..19]), lines[..lines.len() - 2].to_string() + "-61\n");
-    checks.equal("kind 10", replayed(&[5, 0, 0, 1, 10, 0, 0, 1]), "0\n-71\n".into());
+    checks.equal("kind 6", replayed(&[5, 0, 0, 1, 6, 0, 0, 1]), "0\n-71\n".into());
     let mut short = Display { words: vec![0; WORDS + 1], ..sleepers() };
     checks.equal("memory", short.text(s::set_priority((0, 0), 1)), "-6".into());
 }

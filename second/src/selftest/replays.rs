@@ -40,7 +40,6 @@ fn around_a_piece(checks: &mut Checks) {
         (PIECE + 11, Ended::Cut),
         (PIECE + 43, Ended::Unreadable),
         (PIECE + 15, Ended::Clean),
-        (PIECE + 36, Ended::Clean),
     ];
     checks.equal("around a piece", got, want);
 }

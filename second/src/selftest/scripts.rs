@@ -13,7 +13,6 @@ pub fn run(checks: &mut Checks) {
     let edges = edges::script();
     holds_throughout(checks, "edges", &edges);
     checks.holds("edges are fixed", edges == edges::script());
-    holds_throughout(checks, "faults", &edges::faults());
     let mut bytes = Vec::new();
     let written = random::write(7, 5000, &mut bytes);
     checks.holds("random script", written.is_ok());
@@ -34,21 +33,17 @@ fn printing(checks: &mut Checks) {
     script.events(&[s::query(0), s::set_priority((0, 1), 31), s::set_priority((7, 7), 32)]);
     script.events(&[s::set_priority((7, 6), 1), s::set_priority((7, 6), 0)]);
     script.event(s::set_priority((7, 7), 2));
-    script.events(&[s::owner_query((0, 0), 8), s::owner_wait((0, 2), 8, 5, 2)]);
-    script.events(&[s::owner_wait((0, 2), 8, 5, 0), s::owner_query((0, 0), 8)]);
     script.word(0, 8);
     script.word(8, 0);
     script.word(255, u32::MAX);
     script.lend(0);
     script.event(s::clock(1));
     script.dump();
-    let list = "list 0:1 1:2";
-    let first = "thread 1 1 8 4294967295 1 9 0 31 0";
-    let others = "thread 2 1 8 4294967295 0 0 0 0 0\nthread 63 0 0 0 0 0 0 2 255";
+    let list = "list 0:1";
+    let threads = "thread 1 1 8 4294967295 1 9 0 31\nthread 63 0 0 0 0 0 0 2";
     let sets = "0\n-22 reason 8\n0\n0\n0";
-    let owners = "255\n-22 reason 9\nasleep\n0";
-    let events = format!("0\nasleep\n-22 reason 4\n2 1 1\n{sets}\n{owners}\n5\n0\n0\n-6");
-    let want = format!("{events}\nclock 0 count 2\n{list}\n{first}\n{others}\n");
+    let events = format!("0\nasleep\n-22 reason 4\n2 1 1\n{sets}\n5\n0\n0\n-6");
+    let want = format!("{events}\nclock 0 count 1\n{list}\n{threads}\n");
     checks.equal("printing", printed(&script.bytes), want);
     checks.equal("empty script", printed(&[]), String::new());
 }
@@ -63,16 +58,11 @@ fn bad_scripts(checks: &mut Checks) {
         checks.equal("cut script", printed(&script.bytes[..cut]), want.into());
     }
     // The search of request (v) was S.
-    for kind in [0, 10, b'S', 255] {
+    for kind in [0, 6, b'S', 255] {
         checks.equal("unknown kind", printed(&[b'F', kind]), "bad script\n".into());
     }
-    for (kind, length) in [(5, 3), (6, 20), (7, 6), (8, 24), (9, 6)] {
-        let mut record = vec![255; 1 + length];
-        record[0] = kind;
-        checks.equal("any flag", printed(&record), "-3\n".into());
-        checks.equal("cut kind", printed(&record[..length]), "bad script\n".into());
-    }
-    for (field, want) in [(9, ""), (10, ""), (11, "bad script\n"), (255, "bad script\n")] {
+    checks.equal("cut kind 5", printed(&[5, 0, 0]), "bad script\n".into());
+    for (field, want) in [(9, ""), (10, "bad script\n"), (255, "bad script\n")] {
         let mut script = Script::default();
         script.add(Record::Poke { field, index: 0, value: 0 });
         checks.equal("field", printed(&script.bytes), want.into());
@@ -88,10 +78,9 @@ fn pokes(checks: &mut Checks) {
         let record = Record::Poke { field, index, value };
         checks.holds("poke", machine.apply(&record, &mut std::io::sink()).is_ok());
     };
-    for field in 0..=10 {
+    for field in 0..=9 {
         poke(field, 66, u64::MAX);
     }
-    poke(10, 3, 7 << 8);
     let (state, thread) = (&machine.state, machine.state.threads[2]);
     checks.equal("clock and count", (state.clock, state.count), (u64::MAX, u64::MAX));
     checks.equal("list", state.list[2], 255);
@@ -99,7 +88,6 @@ fn pokes(checks: &mut Checks) {
     checks.equal("numbers", (thread.uaddr, thread.bitset), (u32::MAX, u32::MAX));
     checks.equal("deadline", thread.deadline, u64::MAX);
     checks.equal("priority", thread.priority, 255);
-    checks.equal("owners", (thread.owner, machine.state.threads[3].owner), (255, 0));
 }
 
 /// Runs a made script: it is read to its end, is written back the same, and

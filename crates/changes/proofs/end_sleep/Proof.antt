@@ -5,13 +5,11 @@ use native.Mathlib.Omega.{arith}
 use borrow.Author.Rules.{rules}
 use lib.ListN.{length, set, length-set}
 use Rattle.tables.specs.declared.LastAnswer.{LastAnswer}
-use Rattle.tables.specs.declared.Thread.{Thread}
-use Rattle.tables.specs.Sizes.{no_owner}
-use Rattle.tables.specs.Tables.{with_sleep, with_owner, with_last}
-use Rattle.layout.specs.Layout.{last_byte, last_at, owner_at, tables_size, tables_bytes}
+use Rattle.tables.specs.Tables.{with_sleep, with_last}
+use Rattle.layout.specs.Layout.{last_byte, last_at, tables_size}
 use Rattle.layout.proofs.Exact.{last_low}
 use Rattle.changes.specs.Change.{at_thread}
-use Rattle.changes.proofs.Writing.{last_put, owner_put}
+use Rattle.changes.proofs.Writing.{last_put}
 use Rattle.changes.proofs.Changing.{whole_at, at_twice}
 use Rattle.changes.proofs.end_sleep.Statement.{statement}
 use Rattle.changes.proofs.end_sleep.Tie as tie
@@ -34,16 +32,9 @@ add_b c = search rules
 slice_write_b : tie.Need-slice-write-b
 slice_write_b c = omega (arith, size c.before.before)
 
-add_b_2 : tie.Need-overflow-add-b-2
-add_b_2 c = search rules
-
-slice_write_b_2 : tie.Need-slice-write-b-2
-slice_write_b_2 c = simp length-set (omega (arith, size c.before.before))
-
 same_length : tie.Need-same-length
 same_length c = simp length-set c.before.before.put-sleep.auto.0
 
--- the sleep, then the owner, then the answer
 returns : tie.Need-returns
 returns c =
     λ s w is.
@@ -52,23 +43,11 @@ returns c =
     let g = l.before.before in
     let i = g.args.i in
     let asleep = with_sleep false 0 0 false 0 in
-    let free : Thread → Thread = λ r. with_owner no_owner (asleep r) in
-    let b = p.put-sleep.new.0 in
-    let owned : set b (owner_at + i) no_owner ≡ tables_bytes (at_thread i free s) =
-    owner_put (at_thread i asleep s) (whole_at i asleep s w) i g.requires.1 no_owner b (p.put-sleep.ensures s w is) ∙ at_twice i asleep (with_owner no_owner) s w g.requires.1 in
-    ap (set (set b (owner_at + i) no_owner) (last_at + i)) (l.last_byte.ensures ∙ last_fits g.args.last)
-    ∙ last_put (at_thread i free s) (whole_at i free s w) i g.requires.1 g.args.last (set b (owner_at + i) no_owner) owned
-    ∙ at_twice i free (with_last g.args.last) s w g.requires.1
+    ap (set p.put-sleep.new.0 (last_at + i)) (l.last_byte.ensures ∙ last_fits g.args.last)
+    ∙ last_put (at_thread i asleep s) (whole_at i asleep s w) i g.requires.1 g.args.last p.put-sleep.new.0 (p.put-sleep.ensures s w is)
+    ∙ at_twice i asleep (with_last g.args.last) s w g.requires.1
 
 pub end_sleep_spec : {M : Type 1} → statement M
 end_sleep_spec =
     tie.close
-    (tie.spec
-    last_byte_requires
-    put_sleep_requires
-    add_b
-    slice_write_b
-    add_b_2
-    slice_write_b_2
-    same_length
-    returns)
+    (tie.spec last_byte_requires put_sleep_requires add_b slice_write_b same_length returns)

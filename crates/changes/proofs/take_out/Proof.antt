@@ -8,7 +8,7 @@ use lib.Seq.{sets}
 use Rattle.tables.specs.Sizes.{threads, no_entry}
 use Rattle.layout.specs.Layout.{tables_size, list_at}
 use Rattle.changes.proofs.Shifting.{Shifting, length_closed, shifting_start, shifting_next, shifting_all}
-use Rattle.changes.proofs.Standing.{list_in_lem}
+use Rattle.changes.proofs.Standing.{list_in}
 use Rattle.changes.proofs.Writing.{entries_put}
 use Rattle.changes.proofs.take_out.Statement.{statement}
 use Rattle.changes.proofs.take_out.Tie as tie
@@ -86,7 +86,7 @@ returns c =
     let b = g.args.b.now in
     let p = g.args.place in
     shifting_all b list_at threads p g.requires.1.0 g.requires.1.1 (omega (arith, g.requires.0)) a.loop.b a.loop.k a.loop.i a.loop.invariant (omega arith) _ no_entry (omega arith)
-    ∙ ap (λ l. sets b list_at (take (p - 1) l ++ (drop p l ++ (no_entry ∷ [])))) (list_in_lem s w b is)
+    ∙ ap (λ l. sets b list_at (take (p - 1) l ++ (drop p l ++ (no_entry ∷ [])))) (list_in s w b is)
     ∙ entries_put s w (take (p - 1) s.list ++ (drop p s.list ++ (no_entry ∷ []))) b (length_closed s.list p no_entry g.requires.1.0 (omega (arith, w.entries)) ∙ w.entries) is
 
 pub take_out_spec : {M : Type 1} → statement M

@@ -1,27 +1,29 @@
-use mathlib.Core.Path.{refl, sym}
-use Prim.Native.Nat.{◌+◌, ◌-◌}
+use mathlib.Core.Path.{◌≡◌, refl, sym, ap}
+use Prim.Native.Nat.{◌-◌}
 use native.Mathlib.Omega.{arith}
 use borrow.Author.Rules.{rules}
-use Rattle.tables.specs.Sizes.{threads_per_process}
-use Rattle.tables.specs.Tables.{thread_number}
-use Rattle.tables.proofs.Sound.{tables_sound}
-use Rattle.layout.specs.Layout.{priority_at, owner_at, thread_at, state_at}
+use borrow.Author.Tests.{leb-true}
+use Rattle.tables.specs.Sizes.{threads_per_process, max_priority}
+use Rattle.tables.specs.declared.Thread.{Thread}
+use Rattle.tables.specs.Tables.{thread_number, thread_of}
+use Rattle.tables.proofs.Sound.{tables_sound, priority_kept}
+use Rattle.layout.specs.Layout.{thread_at, state_at}
 use Rattle.layout.proofs.Reading.{thread_read}
 use Rattle.views.proofs.Viewing.{Viewing, viewing_start, viewing_next, viewing_all}
 use Rattle.changes.proofs.view_at.Statement.{statement}
 use Rattle.changes.proofs.view_at.Tie as tie
 
 abbrev invariant-loop : tie.invariant-loop
-invariant-loop b process place base at₀ uaddr₀ bitset₀ priority₀ owner₀ i₀ at uaddr bitset priority owner i = Viewing (thread_at b) place process at uaddr bitset priority owner i
+invariant-loop b process place base at₀ uaddr₀ bitset₀ priority₀ i₀ at uaddr bitset priority i = Viewing (thread_at b) place process at uaddr bitset priority i
 
 abbrev decreases-loop : tie.decreases-loop
-decreases-loop b process place base at₀ uaddr₀ bitset₀ priority₀ owner₀ i₀ at uaddr bitset priority owner i = threads_per_process - i
+decreases-loop b process place base at₀ uaddr₀ bitset₀ priority₀ i₀ at uaddr bitset priority i = threads_per_process - i
 
 mul_base : tie.Need-overflow-mul-base invariant-loop decreases-loop
 mul_base c = omega arith
 
 loop_holds : tie.Need-loop-init invariant-loop decreases-loop
-loop_holds c = viewing_start _ _ _ _ _ _ _ _ refl refl refl refl refl
+loop_holds c = viewing_start _ _ _ _ _ _ _ refl refl refl refl
 
 add_t : tie.Need-overflow-add-t invariant-loop decreases-loop
 add_t c = omega arith
@@ -77,30 +79,17 @@ shared_slice_read_priority c = omega arith
 cast_priority : tie.Need-overflow-cast-priority invariant-loop decreases-loop
 cast_priority c =
     let k = c.before.before.before.before in
-    omega (arith, c.shared-slice-known2.given (priority_at + thread_number k.before.before.args.process k.loop.i))
+    let g = k.before.before in
+    let b = g.args.b.now in
+    let t = thread_number g.args.process k.loop.i in
+    let read : (thread_of (state_at b) t).priority ≡ (thread_at b t).priority = ap (λ (r : Thread). r.priority) (thread_read b t (omega arith)) in
+    omega (arith, read, leb-true (thread_of (state_at b) t).priority max_priority (priority_kept (state_at b) (tables_sound _ g.requires.0.sound) t))
 
 mul_priority : tie.Need-overflow-mul-priority invariant-loop decreases-loop
 mul_priority c = omega arith
 
 array_write_priority : tie.Need-array-write-priority invariant-loop decreases-loop
 array_write_priority c = search rules
-
-add_owner : tie.Need-overflow-add-owner invariant-loop decreases-loop
-add_owner c = omega arith
-
-shared_slice_read_owner : tie.Need-shared-slice-read-owner invariant-loop decreases-loop
-shared_slice_read_owner c = omega arith
-
-cast_owner : tie.Need-overflow-cast-owner invariant-loop decreases-loop
-cast_owner c =
-    let k = c.before.before.before.before.before in
-    omega (arith, c.shared-slice-known3.given (owner_at + thread_number k.before.before.args.process k.loop.i))
-
-mul_owner : tie.Need-overflow-mul-owner invariant-loop decreases-loop
-mul_owner c = omega arith
-
-array_write_owner : tie.Need-array-write-owner invariant-loop decreases-loop
-array_write_owner c = search rules
 
 add_i : tie.Need-overflow-add-i invariant-loop decreases-loop
 add_i c = omega arith
@@ -110,12 +99,12 @@ loop_less c = omega arith
 
 loop_again : tie.Need-loop-preserved invariant-loop decreases-loop
 loop_again c =
-    let y = c.before.before in
+    let y = c.before in
     let x = y.before in
     let k = x.before.before in
     let g = k.before.before in
-    viewing_next (thread_at g.args.b.now) g.args.t3 g.args.process k.loop.at k.loop.uaddr k.loop.bitset k.loop.priority k.loop.owner k.loop.i
-    _ x.u32-at.result y.u32-at2.result _ _ k.loop.invariant (omega arith) refl x.u32-at.ensures.0 y.u32-at2.ensures.0 refl refl
+    viewing_next (thread_at g.args.b.now) g.args.t3 g.args.process k.loop.at k.loop.uaddr k.loop.bitset k.loop.priority k.loop.i
+    _ x.u32-at.result y.u32-at2.result _ k.loop.invariant (omega arith) refl x.u32-at.ensures.0 y.u32-at2.ensures.0 refl
 
 returns : tie.Need-returns invariant-loop decreases-loop
 returns c =
@@ -123,7 +112,7 @@ returns c =
     let g = k.before.before in
     let b = g.args.b.now in
     viewing_all (thread_at b) g.args.t3 g.args.process (state_at b) (tables_sound _ g.requires.0.sound) (λ t h. sym (thread_read b t h)) g.requires.1.0 g.requires.1.1
-    k.loop.at k.loop.uaddr k.loop.bitset k.loop.priority k.loop.owner k.loop.i k.loop.invariant (omega arith)
+    k.loop.at k.loop.uaddr k.loop.bitset k.loop.priority k.loop.i k.loop.invariant (omega arith)
 
 pub view_at_spec : {M : Type 1} → statement M
 view_at_spec =
@@ -153,11 +142,6 @@ view_at_spec =
     cast_priority
     mul_priority
     array_write_priority
-    add_owner
-    shared_slice_read_owner
-    cast_owner
-    mul_owner
-    array_write_owner
     add_i
     loop_less
     loop_again

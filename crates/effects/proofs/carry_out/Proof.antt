@@ -10,12 +10,10 @@ use Rattle.lists.proofs.Occurs.{all_elem, elem_all}
 use Rattle.commands.proofs.Places.{thread_below, thread_there}
 use Rattle.tables.specs.declared.LastAnswer.TheVariants.{Woken}
 use Rattle.tables.specs.Sizes.{threads, threads_per_process}
-use Rattle.tables.specs.Tables.{world, arrivals, asleep_at, fall_asleep, end_sleeps, move_sleeps, set_owner}
-use Rattle.rules.specs.declared.answer.Answer.TheVariants.{Asleep}
-use Rattle.rules.specs.Answers.{Outcome, answered}
+use Rattle.tables.specs.Tables.{world, arrivals, end_sleeps, move_sleeps}
 use Rattle.tables.proofs.Sound.{tables_sound, listed_below}
-use Rattle.plans.specs.Plans.{owned_by}
-use Rattle.plans.proofs.Carried.{left_by_plan, carried_asleep, carried_answer, carried_state, carried_words}
+use Rattle.plans.specs.Plans.{carried}
+use Rattle.plans.proofs.Carried.{taken_from, carried_answer, carried_state, carried_words}
 use Rattle.effects.proofs.Firsts.{same_first, same_next}
 use Rattle.effects.proofs.carry_out.Statement.{statement}
 use Rattle.effects.proofs.carry_out.Tie as tie
@@ -29,23 +27,14 @@ fall_asleep_requires c κs =
     let at = c.thread-index.ensures in
     (g.tables, (thread_below _ _ at, rw (thread_there _ _ at g.process g.index) g.runs))
 
-cast_set_owner : tie.Need-overflow-cast-set-owner
-cast_set_owner c = search rules
-
-set_owner_requires : tie.Need-set-owner-requires
-set_owner_requires c κs = search rules
-
 returns : tie.Need-returns
+unfolding carried
 returns c =
-    let a = c.before.before in
-    let t = a.before in
+    let t = c.before in
     let g = t.before.before.before in
-    let d = g.args.d in
-    let x = g.args.c in
     let at = thread_there _ _ t.thread-index.ensures g.requires.0.ready.process g.requires.0.ready.index in
-    let is = carried_asleep x d (world g.args.s g.args.words.now) t.before.if1.true in
-    let state = c.set-owner.ensures ∙ ap (set_owner x.process x.uaddr d.owner) (a.fall-asleep.ensures ∙ ap (λ t. fall_asleep (asleep_at x.uaddr d.bitset d.timed d.deadline) t g.args.s) at) in
-    (ap (λ s. record { answer = Asleep; state = s }) state ∙ ap answered (sym is), ap (λ (o : Outcome). o.world.words) (sym is))
+    let sleeps = t.before.if1.true in
+    (rw (sleeps, c.fall-asleep.ensures, at), rw sleeps)
 
 put_word_requires : tie.Need-put-word-requires
 put_word_requires c κs =
@@ -73,9 +62,6 @@ take_requires c κs =
     let same = c.entries.ensures in
     (g.requires.0.ready.tables, record { places = g.requires.1.0; few = omega (arith, f.few); each = ap (all _) same ∙ f.each; apart = ap distinct same ∙ f.apart })
 
-owned_by_requires : tie.Need-owned-by-requires
-owned_by_requires c κs = search rules
-
 counted_requires : tie.Need-counted-requires
 counted_requires c κs = search rules
 
@@ -90,8 +76,7 @@ listed_long c = search rules
 
 returns_2 : tie.Need-returns-2
 returns_2 c =
-    let o = c.before in
-    let k = o.before in
+    let k = c.before in
     let n = k.before in
     let p = n.before.before.before.before.before in
     let e = p.before.before in
@@ -102,10 +87,9 @@ returns_2 c =
     let few = g.requires.1.1.fits.few in
     let one = same_first n.entries.result d.taken d.released d.moved n.entries.ensures (omega (arith, listed_long n)) (omega (arith, long g)) in
     let two = same_next n.entries.result d.taken d.released d.moved n.entries.ensures (omega (arith, listed_long n)) (omega (arith, long g)) in
-    let taken = k.take.ensures ∙ (λ i. move_sleeps g.args.c.uaddr2 (two i) (end_sleeps Woken (one i) g.args.s)) in
-    let state = o.owned_by.ensures ∙ ap (owned_by g.args.c d) taken ∙ sym (carried_state g.args.c d w takes) in (
+    let state = k.take.ensures ∙ (λ i. move_sleeps g.args.c.uaddr2 (two i) (end_sleeps Woken (one i) g.args.s)) ∙ sym (carried_state g.args.c d w takes) in (
       c.counted.ensures ∙ (λ i. record { answer = sym (carried_answer g.args.c d w takes) i; state = state i }),
-      p.put_word.ensures (left_by_plan g.args.c d g.args.s) ∙ sym (carried_words g.args.c d w takes),
+      p.put_word.ensures (taken_from g.args.c d g.args.s) ∙ sym (carried_words g.args.c d w takes),
     )
 
 pub carry_out_spec : {M : Type 1} → statement M
@@ -114,14 +98,11 @@ carry_out_spec =
     (tie.spec
     thread_index_requires
     fall_asleep_requires
-    cast_set_owner
-    set_owner_requires
     returns
     put_word_requires
     add_entries
     entries_requires
     take_requires
-    owned_by_requires
     counted_requires
     same_length
     returns_2)

@@ -1,21 +1,19 @@
-use mathlib.Core.Path.{refl, ap}
+use mathlib.Core.Path.{refl}
 use Prim.Native.Nat.{◌-◌}
 use native.Mathlib.Omega.{arith}
 use borrow.Author.Rules.{rules}
 use Rattle.tables.specs.Sizes.{threads_per_process}
-use Rattle.tables.specs.declared.Thread.{Thread}
-use Rattle.tables.specs.Tables.{thread_number, thread_of}
-use Rattle.tables.proofs.Changes.{record_read}
+use Rattle.tables.specs.Tables.{thread_of}
 use Rattle.tables.proofs.Sound.{tables_sound}
 use Rattle.views.proofs.Viewing.{Viewing, viewing_start, viewing_next, viewing_all}
 use Rattle.effects.proofs.view_of.Statement.{statement}
 use Rattle.effects.proofs.view_of.Tie as tie
 
 abbrev invariant-loop : tie.invariant-loop
-invariant-loop process s place base at₀ uaddr₀ bitset₀ priority₀ owner₀ i₀ at uaddr bitset priority owner i = Viewing (thread_of s) place process at uaddr bitset priority owner i
+invariant-loop process s place base at₀ uaddr₀ bitset₀ priority₀ i₀ at uaddr bitset priority i = Viewing (thread_of s) place process at uaddr bitset priority i
 
 abbrev decreases-loop : tie.decreases-loop
-decreases-loop process s place base at₀ uaddr₀ bitset₀ priority₀ owner₀ i₀ at uaddr bitset priority owner i = threads_per_process - i
+decreases-loop process s place base at₀ uaddr₀ bitset₀ priority₀ i₀ at uaddr bitset priority i = threads_per_process - i
 
 mul_base : tie.Need-overflow-mul-base invariant-loop decreases-loop
 mul_base c = omega arith
@@ -23,7 +21,7 @@ mul_base c = omega arith
 loop_holds : tie.Need-loop-init invariant-loop decreases-loop
 loop_holds c =
     let g = c in
-    viewing_start (thread_of g.args.t1) g.args.t3 g.args.process _ _ _ _ _ refl refl refl refl refl
+    viewing_start (thread_of g.args.t1) g.args.t3 g.args.process _ _ _ _ refl refl refl refl
 
 add_t : tie.Need-overflow-add-t invariant-loop decreases-loop
 add_t c = omega arith
@@ -70,15 +68,6 @@ mul_priority c = omega arith
 array_write_priority : tie.Need-array-write-priority invariant-loop decreases-loop
 array_write_priority c = omega arith
 
-cast_owner : tie.Need-overflow-cast-owner invariant-loop decreases-loop
-cast_owner c = search rules
-
-mul_owner : tie.Need-overflow-mul-owner invariant-loop decreases-loop
-mul_owner c = omega arith
-
-array_write_owner : tie.Need-array-write-owner invariant-loop decreases-loop
-array_write_owner c = omega arith
-
 add_i : tie.Need-overflow-add-i invariant-loop decreases-loop
 add_i c = omega arith
 
@@ -87,19 +76,17 @@ loop_less c = omega arith
 
 loop_again : tie.Need-loop-preserved invariant-loop decreases-loop
 loop_again c =
-    let k = c.before.before.before.before in
+    let k = c.before.before.before in
     let g = k.before in
     let l = k.loop in
-    let is = record_read g.args.t1 (thread_number g.args.process l.i) (omega (arith, (tables_sound g.args.t1 g.requires.0).records)) in
-    viewing_next (thread_of g.args.t1) g.args.t3 g.args.process l.at l.uaddr l.bitset l.priority l.owner l.i _ _ _ _ _ l.invariant (omega arith) refl
-    (ap (λ (r : Thread). r.uaddr) is) (ap (λ (r : Thread). r.bitset) is) (ap (λ (r : Thread). r.priority) is) (ap (λ (r : Thread). r.owner) is)
+    viewing_next (thread_of g.args.t1) g.args.t3 g.args.process l.at l.uaddr l.bitset l.priority l.i _ _ _ _ l.invariant (omega arith) refl refl refl refl
 
 returns : tie.Need-returns invariant-loop decreases-loop
 returns c =
     let l = c.before.loop in
     let g = c.before.before in
     viewing_all (thread_of g.args.t1) g.args.t3 g.args.process g.args.t1 (tables_sound g.args.t1 g.requires.0) (λ t h. refl) g.requires.1.0 g.requires.1.1
-    l.at l.uaddr l.bitset l.priority l.owner l.i l.invariant (omega arith)
+    l.at l.uaddr l.bitset l.priority l.i l.invariant (omega arith)
 
 pub view_of_spec : {M : Type 1} → statement M
 view_of_spec =
@@ -124,9 +111,6 @@ view_of_spec =
     cast_priority
     mul_priority
     array_write_priority
-    cast_owner
-    mul_owner
-    array_write_owner
     add_i
     loop_less
     loop_again

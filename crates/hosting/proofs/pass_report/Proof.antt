@@ -2,7 +2,7 @@ use mathlib.Core.Path.{refl}
 use mir.Syntax.{w64}
 use mir.Facts.{to_z_pos}
 use borrow.Author.Rules.{rules}
-use Rattle.hosting.proofs.Passing.{wide, back, by_call, by_reading, by_words, by_tables, by_query, of_event}
+use Rattle.hosting.proofs.Passing.{wide, back, by_call, by_words, by_tables, by_query, of_event}
 use Rattle.hosting.proofs.pass_report.Statement.{statement}
 use Rattle.hosting.proofs.pass_report.Tie as tie
 
@@ -60,42 +60,6 @@ vradomil_set_priority_report_requires c κs = search rules
 cast_result_6 : tie.Need-overflow-cast-result-6
 cast_result_6 c = let v = c.before.before.before.before in wide v.vradomil-set-priority-report.result v.vradomil-set-priority-report.type-inv
 
-enum_known_e_7 : tie.Need-enum-known-e-7
-enum_known_e_7 c = search rules
-
-pass_wait_report_requires : tie.Need-pass-wait-report-requires
-pass_wait_report_requires c κs = search rules
-
-cast_result_7 : tie.Need-overflow-cast-result-7
-cast_result_7 c = let v = c.before.before.before.before.before.before in wide v.pass-wait-report.result v.pass-wait-report.type-inv
-
-enum_known_e_8 : tie.Need-enum-known-e-8
-enum_known_e_8 c = search rules
-
-vradomil_wake_single_owner_report_requires : tie.Need-vradomil-wake-single-owner-report-requires
-vradomil_wake_single_owner_report_requires c κs = search rules
-
-cast_result_8 : tie.Need-overflow-cast-result-8
-cast_result_8 c = let v = c.before.before.before.before.before.before in wide v.vradomil-wake-single-owner-report.result v.vradomil-wake-single-owner-report.type-inv
-
-enum_known_e_9 : tie.Need-enum-known-e-9
-enum_known_e_9 c = search rules
-
-pass_requeue_report_requires : tie.Need-pass-requeue-report-requires
-pass_requeue_report_requires c κs = search rules
-
-cast_result_9 : tie.Need-overflow-cast-result-9
-cast_result_9 c = let v = c.before.before.before.before.before.before in wide v.pass-requeue-report.result v.pass-requeue-report.type-inv
-
-enum_known_e_10 : tie.Need-enum-known-e-10
-enum_known_e_10 c = search rules
-
-vradomil_get_owner_report_requires : tie.Need-vradomil-get-owner-report-requires
-vradomil_get_owner_report_requires c κs = search rules
-
-cast_result_10 : tie.Need-overflow-cast-result-10
-cast_result_10 c = let v = c.before.before in wide v.vradomil-get-owner-report.result v.vradomil-get-owner-report.type-inv
-
 same_length : tie.Need-same-length
 same_length c = search rules
 
@@ -109,7 +73,7 @@ returns : tie.Need-returns
 returns c =
     let v = c.before.before.before.before.before.before in
     let k = v.before.before.before.before.before.e.given in
-    of_event k.1 (back v.pass-call-report.result v.pass-call-report.type-inv) (by_call refl refl refl v.pass-call-report.ensures)
+    of_event k.1 (back v.pass-call-report.result v.pass-call-report.type-inv) (by_call {c = k.0.0} v.pass-call-report.ensures)
 
 same_length_4 : tie.Need-same-length-4
 same_length_4 c = search rules
@@ -173,62 +137,6 @@ returns_6 c =
     let v = c.before.before.before.before in
     of_event v.before.before.before.before.before.e6.given.1 (back v.vradomil-set-priority-report.result v.vradomil-set-priority-report.type-inv) (by_tables refl refl refl v.vradomil-set-priority-report.ensures)
 
-same_length_17 : tie.Need-same-length-17
-same_length_17 c = search rules
-
-same_length_18 : tie.Need-same-length-18
-same_length_18 c = search rules
-
-same_length_19 : tie.Need-same-length-19
-same_length_19 c = search rules
-
-returns_7 : tie.Need-returns-7
-returns_7 c =
-    let v = c.before.before.before.before.before.before in
-    of_event v.before.before.before.before.before.e7.given.1 (back v.pass-wait-report.result v.pass-wait-report.type-inv) (by_call refl refl refl v.pass-wait-report.ensures)
-
-same_length_20 : tie.Need-same-length-20
-same_length_20 c = search rules
-
-same_length_21 : tie.Need-same-length-21
-same_length_21 c = search rules
-
-same_length_22 : tie.Need-same-length-22
-same_length_22 c = search rules
-
-returns_8 : tie.Need-returns-8
-returns_8 c =
-    let v = c.before.before.before.before.before.before in
-    of_event v.before.before.before.before.before.e8.given.1 (back v.vradomil-wake-single-owner-report.result v.vradomil-wake-single-owner-report.type-inv) (by_call refl refl refl v.vradomil-wake-single-owner-report.ensures)
-
-same_length_23 : tie.Need-same-length-23
-same_length_23 c = search rules
-
-same_length_24 : tie.Need-same-length-24
-same_length_24 c = search rules
-
-same_length_25 : tie.Need-same-length-25
-same_length_25 c = search rules
-
-returns_9 : tie.Need-returns-9
-returns_9 c =
-    let v = c.before.before.before.before.before.before in
-    of_event v.before.before.before.before.before.e9.given.1 (back v.pass-requeue-report.result v.pass-requeue-report.type-inv) (by_call refl refl refl v.pass-requeue-report.ensures)
-
-same_length_26 : tie.Need-same-length-26
-same_length_26 c = search rules
-
-same_length_27 : tie.Need-same-length-27
-same_length_27 c = search rules
-
-same_length_28 : tie.Need-same-length-28
-same_length_28 c = search rules
-
-returns_10 : tie.Need-returns-10
-returns_10 c =
-    let v = c.before.before in
-    of_event v.before.before.before.before.before.e10.given.1 (back v.vradomil-get-owner-report.result v.vradomil-get-owner-report.type-inv) (by_reading refl refl refl v.vradomil-get-owner-report.ensures)
-
 pub pass_report_spec : {M : Type 1} → statement M
 pass_report_spec =
     tie.close
@@ -251,18 +159,6 @@ pass_report_spec =
     enum_known_e_6
     vradomil_set_priority_report_requires
     cast_result_6
-    enum_known_e_7
-    pass_wait_report_requires
-    cast_result_7
-    enum_known_e_8
-    vradomil_wake_single_owner_report_requires
-    cast_result_8
-    enum_known_e_9
-    pass_requeue_report_requires
-    cast_result_9
-    enum_known_e_10
-    vradomil_get_owner_report_requires
-    cast_result_10
     same_length
     same_length_2
     same_length_3
@@ -284,20 +180,4 @@ pass_report_spec =
     same_length_14
     same_length_15
     same_length_16
-    returns_6
-    same_length_17
-    same_length_18
-    same_length_19
-    returns_7
-    same_length_20
-    same_length_21
-    same_length_22
-    returns_8
-    same_length_23
-    same_length_24
-    same_length_25
-    returns_9
-    same_length_26
-    same_length_27
-    same_length_28
-    returns_10)
+    returns_6)

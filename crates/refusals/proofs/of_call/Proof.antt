@@ -1,16 +1,10 @@
-use borrow.Author.Rules.{rules}
-use mathlib.Core.Path.{◌≡◌, ap, ◌∙◌}
-use native.Mathlib.Omega.{arith}
-use lib.ListN.{length, length-map}
-use Rattle.tables.specs.Editions.{present}
-use Rattle.tables.specs.Sizes.{threads}
+use mathlib.Core.Path.{ap, ◌∙◌}
 use Rattle.tables.specs.Tables.{world}
 use Rattle.rules.specs.declared.answer.Verdict.TheVariants.{Refuse}
-use Rattle.rules.specs.Answers.{by_rows, first}
-use Rattle.rules.specs.Calls.{first_rows, front_in}
-use Rattle.tables.proofs.Changes.{record_read}
-use Rattle.commands.proofs.Places.{thread_below}
+use Rattle.rules.specs.Answers.{by_rows}
+use Rattle.rules.specs.Calls.{first_rows}
 use Rattle.refusals.proofs.Read.{verdict_is}
+use borrow.Author.Rules.{rules}
 use Rattle.refusals.proofs.of_call.Statement.{statement}
 use Rattle.refusals.proofs.of_call.Tie as tie
 
@@ -41,15 +35,11 @@ returns c =
     let w = v.before in
     let i = w.before in
     let t = i.before.before in
-    let k = t.before.before in
-    let g = k.args in
-    let x = t.thread-index.result in
+    let g = t.before.before.args in
     let ws = g.words.now in
-    let long : length g.t1.threads ≡ threads = simp length-map at k.well-formed.0.1.1.1.0.1.0.1 in
-    let read = record_read g.t1 x (omega (arith, thread_below _ _ t.thread-index.ensures)) in
     c.tested.ensures
-    ∙ ap (by_rows Refuse (first_rows (world g.t1 ws))) (v.verdict-on.ensures ∙ (λ j. first (front_in present g.c g.o (read j).waiting (w.word_at.ensures j))))
-    ∙ verdict_is g.c g.o g.t1 ws x i.word-index.result t.thread-index.ensures i.word-index.ensures
+    ∙ ap (by_rows Refuse (first_rows (world g.t1 ws))) (rw (v.verdict-on.ensures, w.word_at.ensures))
+    ∙ verdict_is g.c g.t1 ws t.thread-index.result i.word-index.result t.thread-index.ensures i.word-index.ensures
 
 pub of_call_spec : {M : Type 1} → statement M
 of_call_spec =

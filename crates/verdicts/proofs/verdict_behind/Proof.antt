@@ -1,10 +1,9 @@
 use borrow.Author.Rules.{rules}
 use mathlib.Core.Path.{◌≡◌, sym, ◌∙◌}
 use mathlib.Core.Bool.{Bool, true, false, ◌&&◌}
-use Rattle.tables.specs.Editions.{present}
 use Rattle.rules.specs.Commands.{command_of}
 use Rattle.rules.specs.WakeOp.{undefined_op}
-use Rattle.rules.specs.Calls.{bad_address, is_wake_op, differs, bad_owner_in}
+use Rattle.rules.specs.Calls.{bad_address, is_wake_op, differs, late}
 use Rattle.verdicts.proofs.verdict_behind.Statement.{statement}
 use Rattle.verdicts.proofs.verdict_behind.Tie as tie
 
@@ -19,8 +18,8 @@ module _ (s : tie.Start) where
   abbrev stale : Bool
   stale = differs (command_of s.args.c.op) s.args.c s.args.word
 
-  abbrev nobody : Bool
-  nobody = bad_owner_in present s.args.o
+  abbrev over : Bool
+  over = late (command_of s.args.c.op) s.args.c s.args.now
 
 -- Each is true where the code answers and false where it goes on: a code that tests something else makes one of these false.
 is_outside : (c : tie.Then1) → outside c.before.before ≡ true
@@ -51,14 +50,14 @@ is_stale c = sym c.before.differs.ensures ∙ c.if3.true
 is_expected : (c : tie.Else3) → stale (before_word c.before).before.before ≡ false
 is_expected c = sym c.before.differs.ensures ∙ c.if3.false
 
-abbrev before_owner : tie.After-bad-owner → tie.Else1
-before_owner c = before_word c.before.before
+abbrev before_time : tie.After-late → tie.Else1
+before_time c = before_word c.before.before
 
-is_nobody : (c : tie.Then4) → nobody (before_owner c.before).before.before ≡ true
-is_nobody c = sym c.before.bad-owner.ensures ∙ c.if4.true
+is_over : (c : tie.Then4) → over (before_time c.before).before.before ≡ true
+is_over c = sym c.before.late.ensures ∙ c.if4.true
 
-is_named : (c : tie.Else4) → nobody (before_owner c.before).before.before ≡ false
-is_named c = sym c.before.bad-owner.ensures ∙ c.if4.false
+is_ahead : (c : tie.Else4) → over (before_time c.before).before.before ≡ false
+is_ahead c = sym c.before.late.ensures ∙ c.if4.false
 
 bad_address_requires : tie.Need-bad-address-requires
 bad_address_requires c κs = search rules
@@ -92,8 +91,8 @@ returns_3 c =
     let e = c.before.before in
     rw (c.refused3.ensures, is_inside (before_word e), is_defined e.before, is_stale c.before)
 
-bad_owner_requires : tie.Need-bad-owner-requires
-bad_owner_requires c κs = search rules
+late_requires : tie.Need-late-requires
+late_requires c κs = search rules
 
 refused_requires_4 : tie.Need-refused-requires-4
 refused_requires_4 c κs = search rules
@@ -101,12 +100,12 @@ refused_requires_4 c κs = search rules
 returns_4 : tie.Need-returns-4
 returns_4 c =
     let l = c.before.before in
-    rw (c.refused4.ensures, is_inside (before_owner l), is_defined l.before.before.before, is_expected l.before, is_nobody c.before)
+    rw (c.refused4.ensures, is_inside (before_time l), is_defined l.before.before.before, is_expected l.before, is_over c.before)
 
 returns_5 : tie.Need-returns-5
 returns_5 c =
     let l = c.before in
-    rw (is_inside (before_owner l), is_defined l.before.before.before, is_expected l.before, is_named c)
+    rw (is_inside (before_time l), is_defined l.before.before.before, is_expected l.before, is_ahead c)
 
 pub verdict_behind_spec : {M : Type 1} → statement M
 verdict_behind_spec =
@@ -122,7 +121,7 @@ verdict_behind_spec =
     differs_requires
     refused_requires_3
     returns_3
-    bad_owner_requires
+    late_requires
     refused_requires_4
     returns_4
     returns_5)

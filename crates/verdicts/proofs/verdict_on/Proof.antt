@@ -3,28 +3,26 @@ use mathlib.Core.Path.{◌≡◌, sym, ◌∙◌}
 use mathlib.Core.Bool.{Bool, true, false, cond}
 use Prim.Native.Nat.{ℕ}
 use Rattle.rules.specs.declared.event.Call.{Call}
-use Rattle.rules.specs.declared.event.Owning.{Owning}
 use Rattle.rules.specs.declared.answer.Errno.TheVariants.{ESRCH, EBUSY, ENOSYS, EINVAL}
 use Rattle.rules.specs.declared.answer.Verdict.TheVariants.{Refuse, Pass}
-use Rattle.tables.specs.Editions.{present}
 use Rattle.rules.specs.Answers.{◌because◌, plain, first, reason_among}
 use Rattle.rules.specs.Commands.{command_of, not_implemented}
-use Rattle.rules.specs.Calls.{no_thread, bad_argument, argument_rows, behind_rows, front_in}
+use Rattle.rules.specs.Calls.{no_thread, bad_argument, argument_rows, behind_rows, rows_in, call_rows}
 use Rattle.rules.proofs.Rows.{rows_append}
 use Rattle.rules.proofs.Arguments.{arguments_first}
 use Rattle.verdicts.proofs.verdict_on.Statement.{statement}
 use Rattle.verdicts.proofs.verdict_on.Tie as tie
 
--- the table up to what a call would do, with the rows for -22 as one
-rows : (c : Call) (o : Owning) (waits : Bool) (word : ℕ) → first (front_in present c o waits word)
+-- the table, with the rows for -22 as one
+rows : (c : Call) (waits : Bool) (now word : ℕ) → first (call_rows c waits now word)
     ≡ cond (no_thread c.process c.index) (Refuse (plain ESRCH))
     (cond waits (Refuse (plain EBUSY))
     (cond (not_implemented c.op) (Refuse (plain ENOSYS))
-    (cond (bad_argument (command_of c.op) c) (Refuse (EINVAL because reason_among (argument_rows (command_of c.op) c))) (first (behind_rows present (command_of c.op) c o word)))))
-unfolding front_in
-rows c o waits word =
+    (cond (bad_argument (command_of c.op) c) (Refuse (EINVAL because reason_among (argument_rows (command_of c.op) c))) (first (behind_rows (command_of c.op) c now word)))))
+unfolding rows_in
+rows c waits now word =
     let k = command_of c.op in
-    let behind = behind_rows present k c o word in
+    let behind = behind_rows k c now word in
     rw (rows_append Refuse (argument_rows k c) behind Pass, arguments_first k c (first behind))
 
 -- the conditions of the rows, of the call that came

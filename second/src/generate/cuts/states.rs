@@ -6,7 +6,7 @@ use std::io::{self, Write};
 use crate::cuts::Script;
 use crate::generate::logs;
 use crate::log::{self, LONGEST};
-use crate::model::{Call, Event, OwnerRequeue, OwnerWait};
+use crate::model::{Call, Event};
 use crate::pieces::{Ended, Reader, HELD};
 use crate::rng::Rng;
 use crate::shorthand as s;
@@ -26,7 +26,7 @@ pub fn add(rng: &mut Rng, script: &mut Script<impl Write>) -> io::Result<()> {
     Ok(())
 }
 
-/// A record of each kind without a byte that is 0, and bad flags.
+/// A record of each kind without a byte that is 0, and a call with a bad flag.
 fn records() -> Vec<Vec<u8>> {
     let call = |flag| {
         Event::Call(Call {
@@ -44,40 +44,9 @@ fn records() -> Vec<Vec<u8>> {
     let store = s::store(3, 0x0403_0201, 0x1413_1211);
     let clock = s::clock(0x1817_1615_1413_1211);
     let set_priority = s::set_priority((6, 7), 31);
-    let plain = [call(1), call(2), store, clock, s::interrupt((4, 5)), set_priority];
-    let events = [&plain[..], &owner_events()].concat();
+    let events = [call(1), call(2), store, clock, s::interrupt((4, 5)), set_priority];
     let record = |event| log::encode(event).map(|(bytes, length)| bytes[..length].to_vec());
     events.iter().filter_map(record).collect()
-}
-
-/// The same of kinds 6 to 9.
-fn owner_events() -> [Event; 6] {
-    let wait = |flag| {
-        Event::OwnerWait(OwnerWait {
-            process: 1,
-            index: 2,
-            address: 0x1413_1211,
-            value: 0x2423_2221,
-            flag,
-            deadline: 0x3837_3635_3433_3231,
-            owner: 9,
-        })
-    };
-    let requeue = |single| {
-        Event::OwnerRequeue(OwnerRequeue {
-            process: 1,
-            index: 2,
-            address: 0x1413_1211,
-            wake_cap: 0x2423_2221,
-            value: 0x3433_3231,
-            target: 0x4443_4241,
-            move_cap: 0x5453_5251,
-            owner: 9,
-            single,
-        })
-    };
-    let [wake, query] = [s::owner_wake, s::owner_query].map(|made| made((8, 7), 0x0403_0201));
-    [wait(1), wait(2), wake, requeue(1), requeue(2), query]
 }
 
 /// Makes the commands for states around one record, the first of the log.
@@ -175,7 +144,7 @@ impl<W: Write> Maker<'_, '_, W> {
             let mut reader = Reader { count: count as u8, ..Reader::start() };
             let used = if self.rng.percent(70) { count.min(HELD) } else { HELD };
             for byte in &mut reader.held[..used] {
-                *byte = self.rng.below(11) as u8;
+                *byte = self.rng.below(7) as u8;
             }
             if self.rng.percent(10) {
                 reader.ended =

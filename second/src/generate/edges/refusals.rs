@@ -1,10 +1,6 @@
 //! Every refusal of the table of answers, and the order between them: each
 //! event with every set of its possible faults at once, up to a size.
 
-mod owners;
-
-pub use owners::add as add_owners;
-
 use crate::model::{Call, Event, CLOCK_BIT, CMP_REQUEUE, WAIT, WAIT_BITSET, WAKE_OP, WORDS};
 use crate::script::{self, Record, Script};
 use crate::shorthand as s;

@@ -4,8 +4,8 @@
 
 mod order;
 
-use super::{bad_flag, damaged_of, filler, flagged, of, whole_of};
-use crate::generate::events::{next_but_owners, EDGE_PRIORITIES};
+use super::{damaged, filler, flagged, of, whole};
+use crate::generate::events::{self, EDGE_PRIORITIES};
 use crate::log::LONGEST;
 use crate::model::Event;
 use crate::replay::PIECE;
@@ -19,10 +19,9 @@ pub fn edges() -> Vec<Vec<u8>> {
     among_others(&mut logs);
     // A record across the end of a replay's first piece.
     let across = of(&[s::set_priority((0, 1), 31), s::store(0, 4, 7), s::interrupt((0, 1))]);
-    logs.push([filler(next_but_owners, PIECE - 2), across].concat());
-    let draw = next_but_owners;
-    logs.extend((20..26).map(|seed| whole_of(draw, &mut Rng::new(seed), 200)));
-    logs.extend((500..650).map(|seed| damaged_of(draw, bad_flag, &mut Rng::new(seed), 12)));
+    logs.push([filler(events::next, PIECE - 2), across].concat());
+    logs.extend((20..26).map(|seed| whole(&mut Rng::new(seed), 200)));
+    logs.extend((500..650).map(|seed| damaged(&mut Rng::new(seed), 12)));
     logs.extend(order::edges());
     logs
 }
@@ -71,7 +70,7 @@ fn cuts(logs: &mut Vec<Vec<u8>>) {
 /// behind it.
 fn bad_kinds(logs: &mut Vec<Vec<u8>>) {
     let record = of(&[s::set_priority((0, 1), 9)]);
-    for bad in [vec![0], vec![10], vec![255], flagged(2)] {
+    for bad in [vec![0], vec![6], vec![255], flagged(2)] {
         logs.push([&record[..], &bad].concat());
         logs.push([&bad[..], &record].concat());
         logs.push([&record[..], &bad, &record].concat());

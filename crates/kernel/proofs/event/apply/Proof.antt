@@ -54,30 +54,6 @@ enum_known_e_6 c = search rules
 set_priority_requires : tie.Need-set-priority-requires
 set_priority_requires c κs = search rules
 
-enum_known_e_7 : tie.Need-enum-known-e-7
-enum_known_e_7 c = search rules
-
-owner_wait_requires : tie.Need-owner-wait-requires
-owner_wait_requires c κs = search rules
-
-enum_known_e_8 : tie.Need-enum-known-e-8
-enum_known_e_8 c = search rules
-
-owner_wake_requires : tie.Need-owner-wake-requires
-owner_wake_requires c κs = search rules
-
-enum_known_e_9 : tie.Need-enum-known-e-9
-enum_known_e_9 c = search rules
-
-owner_requeue_requires : tie.Need-owner-requeue-requires
-owner_requeue_requires c κs = search rules
-
-enum_known_e_10 : tie.Need-enum-known-e-10
-enum_known_e_10 c = search rules
-
-owner_query_requires : tie.Need-owner-query-requires
-owner_query_requires c κs = search rules
-
 same_length : tie.Need-same-length
 same_length c = search rules
 
@@ -115,30 +91,6 @@ same_length_5 c = search rules
 returns_6 : tie.Need-returns-6
 returns_6 c = of_event c.before.before.before.e6.given.1 c.set-priority.ensures
 
-same_length_6 : tie.Need-same-length-6
-same_length_6 c = search rules
-
-returns_7 : tie.Need-returns-7
-returns_7 c = of_event c.before.before.before.before.before.e7.given.1 c.before.before.owner-wait.ensures
-
-same_length_7 : tie.Need-same-length-7
-same_length_7 c = search rules
-
-returns_8 : tie.Need-returns-8
-returns_8 c = of_event c.before.before.before.before.before.e8.given.1 c.before.before.owner-wake.ensures
-
-same_length_8 : tie.Need-same-length-8
-same_length_8 c = search rules
-
-returns_9 : tie.Need-returns-9
-returns_9 c = of_event c.before.before.before.before.before.e9.given.1 c.before.before.owner-requeue.ensures
-
-same_length_9 : tie.Need-same-length-9
-same_length_9 c = search rules
-
-returns_10 : tie.Need-returns-10
-returns_10 c = of_event c.before.before.before.e10.given.1 c.owner-query.ensures
-
 pub apply_spec : {M : Type 1} → statement M
 apply_spec =
     tie.close
@@ -155,14 +107,6 @@ apply_spec =
     query_requires
     enum_known_e_6
     set_priority_requires
-    enum_known_e_7
-    owner_wait_requires
-    enum_known_e_8
-    owner_wake_requires
-    enum_known_e_9
-    owner_requeue_requires
-    enum_known_e_10
-    owner_query_requires
     same_length
     returns
     same_length_2
@@ -173,12 +117,4 @@ apply_spec =
     returns_4
     returns_5
     same_length_5
-    returns_6
-    same_length_6
-    returns_7
-    same_length_7
-    returns_8
-    same_length_8
-    returns_9
-    same_length_9
-    returns_10)
+    returns_6)

@@ -1,7 +1,6 @@
 use Rattle.rules.specs.Claims.{Clear}
 use Rattle.commands.proofs.Places.{thread_below, thread_there}
 use borrow.Author.Rules.{rules}
-use borrow.Author.Tests.{not-false}
 use mathlib.Core.Path.{◌≡◌, sym, ap, ◌∙◌}
 use mathlib.Core.Bool.{false}
 use Rattle.rules.specs.declared.event.Event.{Event}
@@ -11,7 +10,7 @@ use Rattle.tables.specs.Tables.{world, World, thread_number}
 use Rattle.rules.specs.Calls.{no_thread}
 use Rattle.rules.specs.Answers.{answered}
 use Rattle.rules.specs.Events.{refusals, effect, interrupt_effect}
-use Rattle.tables.proofs.Sound.{Sound}
+use Rattle.tables.proofs.Sound.{Sound, sound_tables}
 use Rattle.rules.proofs.Passed.{sound_of, thread_process, thread_index}
 use Rattle.kernel.proofs.Events.{interrupt_ends, interrupt_words}
 use Rattle.kernel.proofs.Steps.{cleared, follows_refused, follows_passed}
@@ -53,10 +52,9 @@ array_write_flags : tie.Need-array-write-flags
 array_write_flags c = search rules
 
 end_flagged_requires : tie.Need-end-flagged-requires
-unfolding refusals
 end_flagged_requires c κs =
     let m = c.before.before.before in
-    not-false _ (clear m c.before.enum_told.given.1).1.0
+    sound_tables (start m).args.s (sound m c.before.enum_told.given.1)
 
 counted_requires : tie.Need-counted-requires
 counted_requires c κs = search rules

@@ -1,6 +1,5 @@
 use Rattle.rules.specs.Claims.{Clear}
 use borrow.Author.Rules.{rules}
-use borrow.Author.Tests.{not-false}
 use mathlib.Core.Path.{◌≡◌, refl, ◌∙◌}
 use Rattle.rules.specs.declared.event.Event.{Event}
 use Rattle.rules.specs.declared.event.Event.TheVariants.{Clock}
@@ -8,7 +7,7 @@ use Rattle.rules.specs.declared.answer.Verdict.TheVariants.{Pass}
 use Rattle.tables.specs.Tables.{world, World}
 use Rattle.tables.specs.Steps.{flagged}
 use Rattle.rules.specs.Events.{refusals, effect, clock_effect}
-use Rattle.tables.proofs.Sound.{Sound}
+use Rattle.tables.proofs.Sound.{Sound, sound_tables}
 use Rattle.rules.proofs.Passed.{sound_of}
 use Rattle.kernel.proofs.Events.{clock_ends, due_flagged}
 use Rattle.kernel.proofs.Steps.{cleared, follows_refused, follows_passed}
@@ -47,10 +46,9 @@ expired_requires : tie.Need-expired-requires
 expired_requires c κs = search rules
 
 end_flagged_requires : tie.Need-end-flagged-requires
-unfolding refusals
 end_flagged_requires c κs =
     let m = c.before.before.before in
-    not-false _ (clear m c.before.enum_told.given.1).1.0
+    sound_tables (start m).args.s (sound m c.before.enum_told.given.1)
 
 counted_requires : tie.Need-counted-requires
 counted_requires c κs = search rules

@@ -1,14 +1,11 @@
 use mathlib.Core.Path.{◌≡◌, ap, ◌∙◌}
-use mathlib.Core.Bool.{Bool, cond}
+use mathlib.Core.Bool.{Bool}
 use Prim.Native.Nat.{ℕ, ◌-◌}
 use native.Mathlib.Omega.{arith}
 use borrow.Author.Rules.{rules}
-use lib.ListN.{length, length-map}
 use Rattle.tables.specs.declared.State.{State}
-use Rattle.tables.specs.declared.Thread.{Thread}
-use Rattle.tables.specs.Sizes.{threads_per_process, threads}
+use Rattle.tables.specs.Sizes.{threads_per_process}
 use Rattle.tables.specs.Tables.{thread_number, thread_of}
-use Rattle.tables.proofs.Changes.{record_read}
 use Rattle.rules.specs.Events.{bits_below, waiting_in}
 use Rattle.kernel.proofs.Events.{Bits, bits_start, bits_limit, bits_next}
 use Rattle.kernel.proofs.event.waiting_set.Statement.{statement}
@@ -53,16 +50,11 @@ add_i c = omega arith
 loop_less : tie.Need-loop-smaller invariant-loop decreases-loop
 loop_less c = omega arith
 
-long : (c : tie.Start invariant-loop decreases-loop) → length c.args.t1.threads ≡ threads
-long c = simp length-map at c.well-formed.0.1.1.1.0.1.0.1
-
 loop_again : tie.Need-loop-preserved invariant-loop decreases-loop
 loop_again c =
     let k = c.before.before.before in
     let g = k.before in
-    let read = record_read g.args.t1 (thread_number g.args.process k.loop.i) (omega (arith, long g)) in
-    bits_next (waits g.args.t1 g.args.process) k.loop.bits k.loop.one k.loop.i c.only_if.result k.loop.invariant (omega arith)
-    (c.only_if.ensures.0 ∙ ap (λ (r : Thread). cond r.waiting k.loop.one 0) read) c.only_if.ensures.1
+    bits_next (waits g.args.t1 g.args.process) k.loop.bits k.loop.one k.loop.i c.only_if.result k.loop.invariant (omega arith) c.only_if.ensures.0 c.only_if.ensures.1
 
 cast_result : tie.Need-overflow-cast-result invariant-loop decreases-loop
 cast_result c = omega (arith, bits_limit c.before.loop.invariant, c.before.loop.invariant.below)

@@ -55,14 +55,10 @@ times_ok_requires c κs = search rules
 flags_ok_requires : tie.Need-flags-ok-requires
 flags_ok_requires c κs = search rules
 
-owners_ok_requires : tie.Need-owners-ok-requires
-owners_ok_requires c κs = search rules
-
 returns_3 : tie.Need-returns-3
 unfolding state_at
 returns_3 c =
-    let w = c.before in
-    let f = w.before in
+    let f = c.before in
     let t = f.before.before in
     let u = t.before in
     let p = u.before in
@@ -73,14 +69,13 @@ returns_3 c =
     let list = take threads (drop list_at b) in
     let found = n.listed.result in
     let count = k.u64-at.ensures.0 in
-    told b k.before.if1.false found.low l.tail-ok.result p.places-ok.result t.times-ok.result f.flags-ok.result w.owners-ok.result found.place
+    told b k.before.if1.false found.low l.tail-ok.result p.places-ok.result t.times-ok.result f.flags-ok.result found.place
     (omega (arith, count, n.before.if2.false))
     (subst (λ (m : ℕ). PlacedIn (take m list) found.low found.place) count n.listed.ensures)
     (l.tail-ok.ensures ∙ ap (λ m. all (λ e. eqb e no_entry) (drop m list)) count)
     p.places-ok.ensures
     (t.times-ok.ensures ∙ ap (λ m. every_below threads (time_fits m b)) u.u64-at2.ensures.0)
     (f.flags-ok.ensures ∙ ap (λ m. every_below threads (λ i. flags_fit b i && agrees found.place b i) && eqb (count_below threads (waits b)) m) count)
-    w.owners-ok.ensures
     k.u64-at.ensures.1
 
 pub sound_spec : {M : Type 1} → statement M
@@ -96,5 +91,4 @@ sound_spec =
     u64_at_requires_2
     times_ok_requires
     flags_ok_requires
-    owners_ok_requires
     returns_3)

@@ -11,7 +11,7 @@ use Rattle.tables.specs.declared.Change.{Change}
 use Rattle.tables.specs.Sizes.{threads}
 use Rattle.tables.specs.Tables.{change, with_threads}
 use Rattle.tables.specs.Steps.{changed_by}
-use Rattle.tables.proofs.Changes.{record_read, length_change, change_none, changed_next}
+use Rattle.tables.proofs.Changes.{change_none, changed_next}
 use Rattle.tables.proofs.State.changed.Statement.{statement}
 use Rattle.tables.proofs.State.changed.Tie as tie
 
@@ -75,14 +75,10 @@ loop_again c =
     let e = g.requires.below (from + i) (omega arith) in
     let x : c.before.before.index_of.result ≡ get_or (drop from g.args.t2) i 0 =
     c.before.before.index_of.ensures ∙ omega arith ∙ sym (get_or-drop from g.args.t2 i 0) in
-    let s = k.before.loop.self in
-    let same : length s.threads ≡ length g.args.t1.threads = ap (λ (u : State). length u.threads) k.before.loop.invariant.done ∙ length_change _ _ _ in
-    let read = record_read s c.before.before.index_of.result (omega (arith, same, long g)) in
     record {
       within = omega arith;
-      done = changed_next g.args.how g.args.t1 s (drop from g.args.t2) i c.before.before.index_of.result c.changed.result
-          (omega (arith, size g, g.requires.few, length-drop from g.args.t2)) (omega (arith, long g)) k.before.loop.invariant.done x
-          (c.changed.ensures ∙ ap (changed_by g.args.how) read);
+      done = changed_next g.args.how g.args.t1 k.before.loop.self (drop from g.args.t2) i c.before.before.index_of.result c.changed.result
+          (omega (arith, size g, g.requires.few, length-drop from g.args.t2)) (omega (arith, long g)) k.before.loop.invariant.done x c.changed.ensures;
     }
 
 returns : tie.Need-returns invariant-loop decreases-loop

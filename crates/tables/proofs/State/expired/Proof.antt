@@ -1,14 +1,12 @@
-use mathlib.Core.Path.{◌≡◌, refl, ap, ◌∙◌}
+use mathlib.Core.Path.{refl}
 use mathlib.Core.Bool.{Bool, false}
 use Prim.Native.Nat.{ℕ, ◌-◌}
 use native.Mathlib.Omega.{arith}
 use borrow.Author.Rules.{rules}
-use lib.ListN.{length, length-map}
 use Rattle.lists.proofs.Loops.{Filled, filled_start, filled_next, filled_all}
 use Rattle.tables.specs.declared.State.{State}
 use Rattle.tables.specs.Sizes.{threads}
 use Rattle.tables.specs.Tables.{thread_of, expired}
-use Rattle.tables.proofs.Changes.{record_read}
 use Rattle.tables.proofs.State.expired.Statement.{statement}
 use Rattle.tables.proofs.State.expired.Tie as tie
 
@@ -20,9 +18,6 @@ invariant-loop now self flags₀ i₀ flags i = Filled threads false (due now se
 
 abbrev decreases-loop : tie.decreases-loop
 decreases-loop now self flags₀ i₀ flags i = threads - i
-
-long : (c : tie.Start invariant-loop decreases-loop) → length c.args.t1.threads ≡ threads
-long c = simp length-map at c.well-formed.0.1.1.1.0.1.0.1
 
 loop_holds : tie.Need-loop-init invariant-loop decreases-loop
 loop_holds c = filled_start _ _ refl
@@ -49,8 +44,7 @@ loop_again : tie.Need-loop-preserved invariant-loop decreases-loop
 loop_again c =
     let k = c.before.before.before in
     let g = k.before in
-    filled_next (due g.args.now g.args.t1) k.loop.flags k.loop.i c.has-expired.result k.loop.invariant (omega arith)
-    (c.has-expired.ensures ∙ ap (expired g.args.now) (record_read g.args.t1 k.loop.i (omega (arith, long g))))
+    filled_next (due g.args.now g.args.t1) k.loop.flags k.loop.i c.has-expired.result k.loop.invariant (omega arith) c.has-expired.ensures
 
 returns : tie.Need-returns invariant-loop decreases-loop
 returns c = filled_all _ _ _ c.before.loop.invariant (omega arith)

@@ -1,10 +1,6 @@
-use mathlib.Core.Path.{ap, ◌∙◌}
 use Prim.Native.Nat.{◌<◌}
-use native.Mathlib.Omega.{arith}
 use borrow.Author.Rules.{rules}
 use Rattle.tables.specs.Sizes.{threads}
-use Rattle.tables.specs.Tables.{asleep_at}
-use Rattle.tables.proofs.Changes.{record_read}
 use Rattle.tables.proofs.Sound.{tables_sound, room}
 use Rattle.tables.proofs.Stored.{falls_asleep}
 use Rattle.tables.proofs.State.fall_asleep.Statement.{statement}
@@ -41,11 +37,8 @@ add_self c = let l = free c.before.before in search rules
 returns : tie.Need-returns
 returns c =
     let g = c.before.before in
-    let sound = tables_sound g.args.t1 g.requires.0 in
-    let read = record_read g.args.t1 g.args.t (omega (arith, g.requires.1.0, sound.records)) in
-    falls_asleep g.args.t1 sound g.args.t g.args.uaddr g.args.bitset g.args.timed g.args.deadline
-    c.asleep-at.result g.requires.1.0 g.requires.1.1
-    (c.asleep-at.ensures ∙ ap (asleep_at g.args.uaddr g.args.bitset g.args.timed g.args.deadline) read)
+    falls_asleep g.args.t1 (tables_sound g.args.t1 g.requires.0) g.args.t g.args.uaddr g.args.bitset g.args.timed g.args.deadline
+    c.asleep-at.result g.requires.1.0 g.requires.1.1 c.asleep-at.ensures
 
 pub fall_asleep_spec : {M : Type 1} → statement M
 fall_asleep_spec =

@@ -1,10 +1,7 @@
-use mathlib.Core.Path.{◌≡◌, ap, ◌∙◌}
-use native.Mathlib.Omega.{arith}
+use mathlib.Core.Path.{◌≡◌}
 use borrow.Author.Rules.{rules}
 use lib.ListN.{length, length-map}
 use Rattle.tables.specs.Sizes.{threads}
-use Rattle.tables.specs.Tables.{with_priority}
-use Rattle.tables.proofs.Changes.{record_read}
 use Rattle.tables.proofs.Stored.{sets_priority}
 use Rattle.tables.proofs.State.set_priority.Statement.{statement}
 use Rattle.tables.proofs.State.set_priority.Tie as tie
@@ -31,8 +28,7 @@ returns : tie.Need-returns
 returns c =
     let g = c.before.before in
     let s = g.args.t1 in
-    sets_priority g.args.priority g.args.t s c.with-priority.result (long g) g.requires
-    (c.with-priority.ensures ∙ ap (with_priority g.args.priority) (record_read s g.args.t (omega (arith, long g, g.requires))))
+    sets_priority g.args.priority g.args.t s c.with-priority.result (long g) g.requires c.with-priority.ensures
 
 pub set_priority_spec : {M : Type 1} → statement M
 set_priority_spec =

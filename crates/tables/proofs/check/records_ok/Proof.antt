@@ -5,16 +5,14 @@ use Prim.Native.Nat.{ℕ, ◌+◌, ◌-◌}
 use lib.Dec.{eqb}
 use native.Mathlib.Omega.{arith}
 use borrow.Author.Rules.{rules}
-use lib.ListN.{length, get_or, length-map}
-use Rattle.lists.specs.Lists.{all, bit, every_below, count_below}
+use lib.ListN.{length, length-map}
+use Rattle.lists.specs.Lists.{all, every_below, count_below}
 use Rattle.lists.proofs.Count.{Tested, count_next, count_below_le, tested_start, tested_next, tested_all, every_below_and}
 use Rattle.lists.proofs.Tabulate.{all_below}
 use Rattle.tables.specs.declared.State.{State}
-use Rattle.tables.specs.declared.Thread.{Thread}
 use Rattle.tables.specs.Sizes.{threads}
 use Rattle.tables.specs.Tables.{fresh_thread, thread_of, record_ok}
 use Rattle.tables.specs.Steps.{placed}
-use Rattle.tables.proofs.Changes.{zeros, record_read}
 use Rattle.tables.proofs.check.records_ok.Statement.{statement}
 use Rattle.tables.proofs.check.records_ok.Tie as tie
 
@@ -24,10 +22,6 @@ agrees s place t = beq (placed place t) (thread_of s t).waiting
 
 abbrev good : State → List ℕ → ℕ → Bool
 good s place t = record_ok s.clock (thread_of s t) && agrees s place t
-
--- the same of a record that was read
-abbrev good_as : State → List ℕ → ℕ → Thread → Bool
-good_as s place t r = record_ok s.clock r && beq (placed place t) r.waiting
 
 abbrev waits : State → ℕ → Bool
 waits s t = (thread_of s t).waiting
@@ -80,12 +74,9 @@ loop_again c =
     let k = c.before.before.before.before.before in
     let s = k.before.args.t1 in
     let place = k.before.args.t2 in
-    let i = k.loop.i in
-    let read : get_or s.threads i zeros ≡ thread_of s i = record_read s i (omega (arith, long k.before)) in
     record {
-      tested = rw and_assoc (tested_next threads (good s place) k.loop.ok _ i k.loop.invariant.tested (omega arith)
-          (ap (λ b. b && beq (placed place i) (get_or s.threads i zeros).waiting) c.before.before.record-ok.ensures ∙ ap (good_as s place i) read));
-      counted = (λ j. k.loop.invariant.counted j + (c.one-if.ensures.0 ∙ ap (λ (r : Thread). bit r.waiting) read) j) ∙ sym (count_next i (waits s));
+      tested = rw and_assoc (tested_next threads (good s place) k.loop.ok _ k.loop.i k.loop.invariant.tested (omega arith) (ap (◌&& agrees s place k.loop.i) c.before.before.record-ok.ensures));
+      counted = (λ j. k.loop.invariant.counted j + c.one-if.ensures.0 j) ∙ sym (count_next k.loop.i (waits s));
     }
 
 returns : tie.Need-returns invariant-loop decreases-loop

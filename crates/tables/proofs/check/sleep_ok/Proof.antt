@@ -6,7 +6,7 @@ returns : tie.Need-returns
 returns c = rw (by_test, c.before.before.before.before.before.before.before.if1.true)
 
 returns_2 : tie.Need-returns-2
-returns_2 c = rw c.before.before.before.before.before.if1.false
+returns_2 c = rw c.before.before.before.before.if1.false
 
 pub sleep_ok_spec : {M : Type 1} → statement M
 sleep_ok_spec = tie.close (tie.spec returns returns_2)

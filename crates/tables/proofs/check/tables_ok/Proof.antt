@@ -5,7 +5,7 @@ use borrow.Author.Tests.{lt-leb}
 use lib.ListN.{length, length-map}
 use Rattle.tables.specs.Sizes.{threads}
 use Rattle.tables.specs.Editions.{present}
-use Rattle.tables.specs.Tables.{sizes_ok, list_in, tables_in}
+use Rattle.tables.specs.Tables.{sizes_ok, tables_in}
 use Rattle.tables.proofs.Checked.{checked}
 use Rattle.tables.proofs.check.tables_ok.Statement.{statement}
 use Rattle.tables.proofs.check.tables_ok.Tie as tie
@@ -17,7 +17,7 @@ entries : (c : tie.Start) → length c.args.s.list ≡ threads
 entries c = search rules
 
 returns : tie.Need-returns
-unfolding tables_in list_in
+unfolding tables_in
 returns c =
     let s = c.before.before.args.s in
     rw (lt-leb s.count threads c.if1.true, and-false (sizes_ok present s))
@@ -31,19 +31,13 @@ tail_ok_requires c κs = search rules
 records_ok_requires : tie.Need-records-ok-requires
 records_ok_requires c κs = search rules
 
-owners_ok_requires : tie.Need-owners-ok-requires
-owners_ok_requires c κs = search rules
-
 returns_2 : tie.Need-returns-2
 returns_2 c =
-    let o = c.before in
-    let r = o.before in
-    let t = r.before.before in
-    let k = t.before in
+    let k = c.before.before.before.before in
     let g = k.before.before.before.before in
-    checked g.args.s k.places-in.result.low t.tail-ok.result r.records-ok.result o.owners-ok.result k.places-in.result.place
-    (long g) (entries g) k.before.before.if1.false k.places-in.ensures t.tail-ok.ensures r.records-ok.ensures o.owners-ok.ensures
+    checked g.args.s k.places-in.result.low c.before.before.before.tail-ok.result c.before.records-ok.result k.places-in.result.place
+    (long g) (entries g) k.before.before.if1.false k.places-in.ensures c.before.before.before.tail-ok.ensures c.before.records-ok.ensures
 
 pub tables_ok_spec : {M : Type 1} → statement M
 tables_ok_spec =
-    tie.close (tie.spec returns places_in_requires tail_ok_requires records_ok_requires owners_ok_requires returns_2)
+    tie.close (tie.spec returns places_in_requires tail_ok_requires records_ok_requires returns_2)

@@ -1,34 +1,19 @@
 use borrow.Author.Rules.{rules}
 use mathlib.Core.Path.{◌≡◌, refl, sym, ap, ◌∙◌}
-use Prim.Native.Nat.{ℕ, ◌<◌}
+use Prim.Native.Nat.{ℕ}
 use native.Mathlib.Omega.{arith}
-use lib.ListN.{length}
 use Rattle.lists.specs.LittleEndian.{Bytes}
-use Rattle.tables.specs.declared.LastAnswer.TheVariants.{Woken}
-use Rattle.tables.specs.Sizes.{memory_words, word_limit}
+use Rattle.tables.specs.Sizes.{memory_words}
 use Rattle.tables.specs.Tables.{world, thread_number, fall_asleep, asleep_at}
 use Rattle.rules.specs.Answers.{Outcome}
-use Rattle.layout.specs.Layout.{tables_size, state_at, tables_bytes, words_at, words_bytes}
+use Rattle.layout.specs.Layout.{state_at, tables_bytes, words_at, words_bytes}
 use Rattle.layout.proofs.Exact.{words_exact}
-use Rattle.rules.specs.Calls.{caller}
-use Rattle.changes.proofs.Fitted.{fitted_taken, fitted_asleep, fitted_set}
 use Rattle.commands.proofs.Places.{thread_below, thread_there}
-use Rattle.plans.proofs.Carried.{left_by_plan, carried_asleep, carried_answer, carried_state, carried_words}
+use Rattle.plans.proofs.Carried.{taken_from, carried_asleep, carried_answer, carried_state, carried_words}
 use Rattle.vradomil.specs.Host.{host_number}
 use Rattle.vradomil.proofs.Steps.{leaves_by}
 use Rattle.vradomil.proofs.call.carry_out.Statement.{statement}
 use Rattle.vradomil.proofs.call.carry_out.Tie as tie
-
--- the addresses fit their fields
-address : (c : tie.Start) → (c.args.c.uaddr < word_limit) × (c.args.c.uaddr2 < word_limit)
-address c = search rules
-
--- the tables keep their length
-asleep_long : (c : tie.After-fall-asleep) → length c.fall-asleep.new.0 ≡ tables_size
-asleep_long c = search rules
-
-taken_long : (c : tie.After-take) → length c.take.new.0 ≡ tables_size
-taken_long c = search rules
 
 thread_index_requires : tie.Need-thread-index-requires
 thread_index_requires c κs = search rules
@@ -40,12 +25,6 @@ fall_asleep_requires c κs =
     let at = t.thread-index.ensures in
     (g.held, (thread_below _ _ at, rw (thread_there _ _ at g.granted.ready.process g.granted.ready.index) g.granted.ready.runs))
 
-cast_set_owner : tie.Need-overflow-cast-set-owner
-cast_set_owner c = search rules
-
-set_owner_requires : tie.Need-set-owner-requires
-set_owner_requires c κs = let g = c.before.before.before.before.before.before.before.before.before.before in (search rules, g.requires.0.granted.ready.process)
-
 same_length : tie.Need-same-length
 same_length c = search rules
 
@@ -54,8 +33,7 @@ low c = λ (j : ℕ). omega (arith, c.slice-known2.given j)
 
 returns : tie.Need-returns
 returns c =
-    let o = c.before.before in
-    let f = o.before.before.before.before.before in
+    let f = c.before.before in
     let t = f.before.before in
     let i = t.before in
     let g = i.before.before.before in
@@ -66,9 +44,7 @@ returns c =
       leaves_by _ _ _ _ is (record {
         number = refl;
         small = omega arith;
-        bytes = (fitted_set _ _ (fitted_asleep g.args.b.now g.requires.0.held g.args.c.uaddr (address g).0 _ (asleep_long f) g.args.d.bitset g.args.d.timed g.args.d.deadline (caller g.args.c)
-            (f.fall-asleep.ensures ∙ ap (λ k. tables_bytes (fall_asleep (asleep_at g.args.c.uaddr g.args.d.bitset g.args.d.timed g.args.d.deadline) k (state_at g.args.b.now))) at))
-            g.args.c.process g.args.c.uaddr g.args.d.owner _ o.set-owner.ensures).bytes;
+        bytes = f.fall-asleep.ensures ∙ ap (λ k. tables_bytes (fall_asleep (asleep_at g.args.c.uaddr g.args.d.bitset g.args.d.timed g.args.d.deadline) k (state_at g.args.b.now))) at;
       }),
       words_exact memory_words m g.requires.0.long (low i.before) ∙ ap (λ (o : Outcome). words_bytes o.world.words) is,
     )
@@ -101,12 +77,6 @@ take_requires c κs =
       },
     )
 
-put_owners_requires : tie.Need-put-owners-requires
-put_owners_requires c κs =
-    let k = c.before.before.before in
-    let g = k.before.before.before.before.before.before.before.before.before.before.before.before in
-    (search rules, g.requires.0.granted.ready.process)
-
 same_length_2 : tie.Need-same-length-2
 same_length_2 c = search rules
 
@@ -115,20 +85,18 @@ same_length_3 c = search rules
 
 returns_2 : tie.Need-returns-2
 returns_2 c =
-    let o = c.before.before in
-    let k = o.before.before.before.before in
+    let k = c.before.before in
     let p = k.before.before.before.before.before.before.before in
     let e = p.before.before in
     let g = e.before.before.before in
     let w = world (state_at g.args.b.now) (words_at g.args.words.now) in
-    let takes = e.if1.false in
-    let t = fitted_taken g.args.b.now g.requires.0.held g.args.c.uaddr2 (address g).1 _ (taken_long k) Woken _ _ k.take.ensures in (
+    let takes = e.if1.false in (
       record {
         number = ap host_number (sym (carried_answer g.args.c g.args.d w takes));
         small = omega (arith, g.requires.1.fits.small);
-        bytes = o.put-owners.ensures _ t.shape t.addressed t.bytes ∙ ap tables_bytes (sym (carried_state g.args.c g.args.d w takes));
+        bytes = k.take.ensures ∙ ap tables_bytes (sym (carried_state g.args.c g.args.d w takes));
       },
-      p.put_word.ensures (left_by_plan g.args.c g.args.d (state_at g.args.b.now)) ∙ ap words_bytes (sym (carried_words g.args.c g.args.d w takes)),
+      p.put_word.ensures (taken_from g.args.c g.args.d (state_at g.args.b.now)) ∙ ap words_bytes (sym (carried_words g.args.c g.args.d w takes)),
     )
 
 pub carry_out_spec : {M : Type 1} → statement M
@@ -137,15 +105,12 @@ carry_out_spec =
     (tie.spec
     thread_index_requires
     fall_asleep_requires
-    cast_set_owner
-    set_owner_requires
     same_length
     returns
     put_word_requires
     cast_column_of
     column_of_requires
     take_requires
-    put_owners_requires
     same_length_2
     same_length_3
     returns_2)

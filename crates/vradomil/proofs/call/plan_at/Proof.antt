@@ -16,12 +16,6 @@ use Rattle.vradomil.proofs.call.plan_at.Tie as tie
 uses_by_requires : tie.Need-uses-by-requires
 uses_by_requires c κs = search rules
 
-cast_view_at : tie.Need-overflow-cast-view-at
-cast_view_at c = search rules
-
-view_at_requires : tie.Need-view-at-requires
-view_at_requires c κs = let g = c.before.before.before.before in (g.requires.held, (g.requires.granted.ready.process, g.requires.places))
-
 u64_at_requires : tie.Need-u64-at-requires
 u64_at_requires c κs = search rules
 
@@ -32,12 +26,17 @@ returns : tie.Need-returns
 returns c =
     let k = c.before in
     let i = k.before in
-    let v = i.before in
-    let u = v.before.before in
+    let u = i.before in
     let g = u.before.before.before in
     let b = g.args.b.now in
     c.sleep-plan.ensures (world (state_at b) (words_at g.args.words.now)) g.requires.granted (sym (ap (λ (x : Uses). x.deadline) u.uses-by.ensures) ∙ i.if1.true)
-    v.view-at.ensures (k.u64-at.ensures.0 ∙ clock_read b)
+    (k.u64-at.ensures.0 ∙ clock_read b)
+
+cast_view_at : tie.Need-overflow-cast-view-at
+cast_view_at c = search rules
+
+view_at_requires : tie.Need-view-at-requires
+view_at_requires c κs = search rules
 
 word_index_requires : tie.Need-word-index-requires
 word_index_requires c κs = search rules
@@ -47,8 +46,8 @@ word_at_requires c κs = search rules
 
 take_plan_requires : tie.Need-take-plan-requires
 take_plan_requires c κs =
-    let v = c.before.before.before in
-    let g = v.before.before.before.before.before in
+    let v = c.before.before in
+    let g = v.before.before.before.before.before.before in
     let s = state_at g.args.b.now in
     (g.requires.granted.ready.process, views_small g.args.c.process s v.view-at.result g.requires.granted.ready.tables v.view-at.ensures)
 
@@ -56,9 +55,9 @@ returns_2 : tie.Need-returns-2
 returns_2 c =
     let o = c.before in
     let i = o.before in
-    let e = i.before in
-    let v = e.before in
-    let u = v.before.before in
+    let v = i.before in
+    let e = v.before.before in
+    let u = e.before in
     let g = u.before.before.before in
     let ws = words_at g.args.words.now in
     let w = world (state_at g.args.b.now) ws in
@@ -71,11 +70,11 @@ plan_at_spec =
     tie.close
     (tie.spec
     uses_by_requires
-    cast_view_at
-    view_at_requires
     u64_at_requires
     sleep_plan_requires
     returns
+    cast_view_at
+    view_at_requires
     word_index_requires
     word_at_requires
     take_plan_requires

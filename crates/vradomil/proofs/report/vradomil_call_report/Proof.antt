@@ -1,6 +1,9 @@
-use mathlib.Core.Path.{refl}
-use Rattle.rules.specs.Claims.{itself, as_call}
-use Rattle.vradomil.proofs.Reports.{handed_on, calls_told}
+use mathlib.Core.Path.{◌∙◌}
+use Rattle.rules.specs.declared.event.Call.{Call}
+use Rattle.rules.specs.declared.event.Event.TheVariants.{Call as CallEvent}
+use Rattle.rules.proofs.Reasons.{call_reason}
+use Rattle.vradomil.specs.Host.{seen}
+use Rattle.vradomil.proofs.Reports.{report_made, handed_on}
 use borrow.Author.Rules.{rules}
 use Rattle.vradomil.proofs.report.vradomil_call_report.Statement.{statement}
 use Rattle.vradomil.proofs.report.vradomil_call_report.Tie as tie
@@ -29,8 +32,17 @@ returns c =
     let q = p.before.before in
     let v = q.before.before.before.before.before in
     let a = v.before.before.before.before.before.before.args in
-    calls_told (itself (as_call _)) a.tables.now a.words.now a.report.now (handed_on v.vradomil-call.result v.vradomil-call.type-inv) refl
-    q.reason-of-call.ensures p.put-report.ensures v.vradomil-call.ensures
+    let call : Call = record { process = a.process; index = a.index; op = a.op; uaddr = a.uaddr; val = a.val; flag = a.flag; timeout = a.timeout; uaddr2 = a.uaddr2; val3 = a.val3 } in
+    let w = seen a.tables.now a.words.now in
+    let number = handed_on v.vradomil-call.result v.vradomil-call.type-inv ∙ v.vradomil-call.ensures.number in
+    record {
+      number = number;
+      tables = v.vradomil-call.ensures.tables;
+      words = v.vradomil-call.ensures.words;
+      report = p.put-report.ensures
+          ∙ report_made (CallEvent call) w number (call_reason call w) q.reason-of-call.ensures a.report.now;
+      fits = v.vradomil-call.ensures.fits;
+    }
 
 pub vradomil_call_report_spec : {M : Type 1} → statement M
 vradomil_call_report_spec =
