@@ -29,7 +29,7 @@ without_taken f (x ∷ xs) (suc n) one =
     let fewer : (t : ℕ) → occurs t xs ≤ 1 = λ t. omega (arith, one t) in
     cases (f x)
     (λ e. cc (without_taken f xs n fewer, without_absent x (take n (filter f xs)) xs none, eqb_refl x))
-    (λ e. rw e (cc (
+    (λ e. let same : filter f (x ∷ xs) ≡ filter f xs = rw e refl in ap (λ l. without (take (suc n) l) (x ∷ xs)) same ∙ rw e (cc (
       without_taken f xs (suc n) fewer,
       occurs_absent x (take (suc n) (filter f xs)) (omega (arith, none, occurs_take_le (suc n) x (filter f xs), occurs_filter_le f x xs)),
     )))

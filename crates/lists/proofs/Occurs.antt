@@ -87,7 +87,7 @@ distinct_occurs t [] h = omega arith
 distinct_occurs t (x ∷ xs) h =
     let ih = distinct_occurs t xs (and_right (not (elem x xs)) (distinct xs) h) in
     let out = absent_occurs x xs (not-true (elem x xs) (and_left (not (elem x xs)) (distinct xs) h)) in
-    cases (eqb t x) (λ e. rw (e, eqb-true t x e) (omega arith)) (λ e. rw e (omega arith))
+    cases (eqb t x) (λ e. omega (arith, ap bit e, ap (λ u. occurs u xs) (eqb-true t x e))) (λ e. rw e (omega arith))
 
 -- a test of the elements
 pub all_elem : (f : ℕ → Bool) (l : List ℕ) → ((t : ℕ) → elem t l ≡ true → f t ≡ true) → all f l ≡ true
