@@ -1,4 +1,6 @@
 // Arrivals: the arrival list, where each thread stands in it, entries taken out of it and joined to it. It stands on lists.
+#![tactic(auto)]
+
 ghost use Rattle.std.specs.Prelude.{◌≡◌, cond, ◌∷◌, [], ◌++◌, ◌+◌, ◌-◌, ◌%◌, ◌≤◌, ◌<◌, take, drop, eqb, ltb};
 ghost use Rattle.lists.specs.Lists.{all, bit, without, pad_to};
 ghost use Rattle.arrivals.specs.Sizes.{threads, no_entry};

@@ -1,4 +1,6 @@
 // Changes: what a call reads of its process, and the changes of the tables, on their bytes where they lie. It stands on layout and views.
+#![tactic(auto)]
+
 ghost use Rattle.std.specs.Prelude.{◌≡◌, false, not, [], ◌∷◌, ◌++◌, ◌+◌, ◌-◌, ◌%◌, ◌≤◌, ◌<◌, length, take, drop, ltb};
 ghost use Rattle.lists.specs.Lists.{all, bit};
 ghost use Rattle.lists.specs.LittleEndian.{number_at};

@@ -1,4 +1,6 @@
 // Commands: what an op stands for, and what a call's arguments mean to its command. It stands on rules.
+#![tactic(auto)]
+
 ghost use Rattle.std.specs.Prelude.{◌≡◌, cond, ◌+◌, ◌-◌, min};
 ghost use Rattle.tables.specs.Sizes.{time_limit, match_any};
 ghost use Rattle.rules.specs.Commands.{numbered, command_of, not_implemented, uses};

@@ -1,4 +1,6 @@
 // Cuts: runs a script of pieces on the reader of logs, and prints what came of each. It stands on pieces.
+#![tactic(auto)]
+
 ghost use Rattle.std.specs.Prelude.{◌+◌, ◌<◌, ◌≤◌, ◌≡◌, true, length};
 
 mod print;

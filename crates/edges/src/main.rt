@@ -1,4 +1,6 @@
 // Edges: runs a script of events and probes on the kernel, and prints what happened. It stands on kernel.
+#![tactic(auto)]
+
 ghost use Rattle.std.specs.Prelude.{◌+◌, ◌≤◌};
 ghost use Rattle.tables.specs.Sizes.{memory_words};
 

@@ -1,4 +1,6 @@
 // Effects: what a call does that no row refuses, on the tables by value: its plan is made and carried out. It stands on plans.
+#![tactic(auto)]
+
 ghost use Rattle.std.specs.Prelude.{◌≡◌, true, cond, ◌≤◌, ◌<◌, length, take, ltb};
 ghost use Rattle.lists.specs.Lists.{all};
 ghost use Rattle.tables.specs.Sizes.{processes, threads_per_process, threads, bytes_per_process, memory_words};

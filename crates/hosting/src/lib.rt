@@ -1,4 +1,6 @@
 // Hosting: what is proved of whole histories that a host in C runs through the library. It stands on vradomil.
+#![tactic(auto)]
+
 ghost use Rattle.std.specs.Prelude.{[]};
 ghost use Rattle.vradomil.specs.Host.{Calls};
 ghost use Rattle.hosting.specs.Hosts.{Hosted};

@@ -1,4 +1,6 @@
 // Kernel: the code of every event, proved equal to the rules. It stands on refusals, effects and tables.
+#![tactic(auto)]
+
 ghost use Rattle.std.specs.Prelude.{◌≡◌};
 ghost use Rattle.rules.specs.declared.answer.Answer.TheVariants.{Refused};
 

@@ -1,4 +1,6 @@
 // Layout: the tables as bytes, read and checked where they lie. It stands on tables and numbers.
+#![tactic(auto)]
+
 pub mod check;
 pub mod read;
 

@@ -1,4 +1,6 @@
 // Numbers: numbers of four and of eight bytes, the lowest first, read and written where they lie. It stands on lists.
+#![tactic(auto)]
+
 ghost use Rattle.std.specs.Prelude.{◌≡◌, ◌+◌, ◌≤◌, ◌<◌, length};
 ghost use Rattle.std.proofs.lemmas.List.Edits.{sets};
 ghost use Rattle.lists.specs.LittleEndian.{bytes, Bytes, number_at};

@@ -1,4 +1,6 @@
 // Operations: what the val3 of a WAKE_OP stands for. It stands on rules.
+#![tactic(auto)]
+
 ghost use Rattle.std.specs.Prelude.{◌≡◌, ◌+◌, ◌%◌};
 ghost use Rattle.tables.specs.Sizes.{word_bits, word_limit};
 ghost use Rattle.rules.specs.Signed.{signed, modulo, turned};

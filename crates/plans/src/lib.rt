@@ -1,5 +1,7 @@
 // Plans: what a call decides that no row refuses, on the view of its own process; each kernel carries a plan out on its own tables. It
 // stands on views, commands and operations.
+#![tactic(auto)]
+
 ghost use Rattle.std.specs.Prelude.{◌≡◌, false, cond, ◌++◌, ◌+◌, ◌-◌, ◌≤◌, ◌<◌, min, take, ltb};
 ghost use Rattle.lists.specs.Lists.{tabulate};
 ghost use Rattle.tables.specs.Sizes.{processes, threads_per_process};

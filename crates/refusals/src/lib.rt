@@ -1,4 +1,6 @@
 // Refusals: which row of the table of answers refuses an event, or none. It stands on verdicts and tables.
+#![tactic(auto)]
+
 ghost use Rattle.std.specs.Prelude.{◌≡◌, get_or};
 ghost use Rattle.rules.specs.declared.event.Event.TheVariants.{Call as CallEvent, Store, Clock, Interrupt, SetPriority};
 ghost use Rattle.rules.specs.declared.answer.Verdict.TheVariants.{Refuse};

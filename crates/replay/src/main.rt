@@ -1,4 +1,6 @@
 // Replay: reads a log from standard input, piece by piece, and prints what each event was answered. It stands on playback.
+#![tactic(auto)]
+
 ghost use Rattle.std.specs.Prelude.{◌<◌, length};
 ghost use Rattle.io.specs.Counts.{IsPrefixLen};
 ghost use Rattle.playback.specs.Playback.{Within};

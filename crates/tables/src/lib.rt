@@ -1,4 +1,6 @@
 // Tables: what the kernel keeps, a clock, a record for each thread and the arrival list with its count; their rules and changes. It stands on arrivals.
+#![tactic(auto)]
+
 ghost use Rattle.std.specs.Prelude.{◌≡◌, true, false, ◌+◌, ◌<◌, take, drop};
 ghost use Rattle.tables.specs.Sizes.{threads};
 ghost use Rattle.tables.specs.Tables.{fresh_thread, stored_deadline, with_sleep, with_last, ended, moved_to, with_priority, asleep_at, expired, thread_of, fresh, change, with_threads, fall_asleep, end_sleeps, move_sleeps, set_priority, tables_ok};

@@ -1,4 +1,6 @@
 // Text: numbers as lines of text, written into a lent slice. It stands on rules.
+#![tactic(auto)]
+
 ghost use Rattle.std.specs.Prelude.{◌+◌, ◌≤◌, ◌≡◌, pos, ◌+ℤ◌, length};
 ghost use Rattle.text.specs.Text.{word_digits, decimal, count_line, refusal_line, host_line, raise, Spoken, line_room, Puts};
 

@@ -1,5 +1,7 @@
 // Verdicts: the table of answers, every refusal of a call and of a set priority, on the few numbers that it reads. It stands on commands
 // and operations.
+#![tactic(auto)]
+
 ghost use Rattle.std.specs.Prelude.{◌≡◌, cond};
 ghost use Rattle.rules.specs.declared.answer.Errno.TheVariants.{EINVAL};
 ghost use Rattle.rules.specs.declared.answer.Verdict.TheVariants.{Refuse};
