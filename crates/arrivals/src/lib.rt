@@ -37,7 +37,7 @@ pub fn one_if(test: bool) -> usize
 }
 
 // Where each thread stands in a list, from 1, and 0 where it does not; and whether the list names threads alone.
-#[derive(Drop)]
+#[derive(Clone, Copy)]
 pub struct Placed {
     pub low: bool,
     pub place: [u8; THREADS],
@@ -171,7 +171,7 @@ pub fn relisted(
 }
 
 // A list in two: the entries that pass a test, and the others, each in their order.
-#[derive(Drop)]
+#[derive(Clone, Copy)]
 pub struct Split {
     pub left: [u8; THREADS],
     pub count: usize,

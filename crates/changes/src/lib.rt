@@ -162,7 +162,7 @@ fn some_due(b: &[u8], time: u64) -> bool
 }
 
 // Those whose sleep ends, the first n entries.
-#[derive(Drop)]
+#[derive(Clone, Copy)]
 struct Ended {
     who: [u8; THREADS],
     n: usize,

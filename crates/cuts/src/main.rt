@@ -25,7 +25,7 @@ pub(crate) fn least(a: usize, b: usize) -> usize
 
 // What a command gave so far: the events with their sum, the reader and its place in the piece, and how the log stands once there are no
 // more.
-#[derive(Drop)]
+#[derive(Clone, Copy)]
 pub(crate) struct Given {
     pub(crate) events: usize,
     pub(crate) sum: u64,
@@ -105,7 +105,7 @@ fn given_by(kind: u8, r: ReaderState, piece: &[u8]) -> Given {
 
 // Where a run stands: the reader, the place and the end of what is in the input's buffer, the log's length, the end of the text that is
 // not written yet, and the kind of the last command.
-#[derive(Drop)]
+#[derive(Clone, Copy)]
 struct Run {
     state: ReaderState,
     at: usize,
@@ -116,7 +116,7 @@ struct Run {
 }
 
 // The reader after a command, and the end of the text.
-#[derive(Drop)]
+#[derive(Clone, Copy)]
 struct Told {
     state: ReaderState,
     text: usize,

@@ -23,7 +23,7 @@ pub(crate) const OVER: u8 = b'O';
 const LONGEST: usize = 3 + HELD;
 
 // What of the buffer is still to be read.
-#[derive(Drop)]
+#[derive(Clone, Copy)]
 pub(crate) struct Unread {
     pub(crate) at: usize,
     pub(crate) end: usize,
@@ -88,7 +88,7 @@ fn is_kind(kind: u8) -> bool {
 }
 
 // A command, and the places of its body and behind it.
-#[derive(Drop)]
+#[derive(Clone, Copy)]
 pub(crate) struct Command {
     pub(crate) kind: u8,
     pub(crate) body: usize,
@@ -166,7 +166,7 @@ pub(crate) fn state_after(r: ReaderState, kind: u8, input: &[u8], body: usize) -
 }
 
 // The part of a log of n bytes that is a command's piece, and the command's kind unless there is no such part.
-#[derive(Drop)]
+#[derive(Clone, Copy)]
 pub(crate) struct Span {
     pub(crate) from: usize,
     pub(crate) to: usize,
@@ -206,7 +206,7 @@ pub(crate) fn piece_of(kind: u8, input: &[u8], body: usize, n: usize) -> Span
 }
 
 // The log's length and the place in the input from which to go on, and the command's kind unless its log did not come whole.
-#[derive(Drop)]
+#[derive(Clone, Copy)]
 pub(crate) struct Loaded {
     pub(crate) log: usize,
     pub(crate) at: usize,

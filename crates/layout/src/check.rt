@@ -148,7 +148,7 @@ fn times_ok(b: &[u8], time: u64) -> bool
 
 // What the check of the bytes tells: whether they stand for tables that keep the table rules; and, if so, where each thread stands in the
 // arrival list.
-#[derive(Drop)]
+#[derive(Clone, Copy)]
 pub struct Seen {
     pub ok: bool,
     pub place: [u8; THREADS],

@@ -17,7 +17,7 @@ use views::{View, at_rank, candidates};
 
 // What a call does: the caller falls asleep at uaddr, with a mask and perhaps a deadline; or sleepers are taken, by number and in order,
 // of which the first run and the next move to uaddr2, and the word at uaddr2 may be written. The count is the answer then.
-#[derive(Drop)]
+#[derive(Clone, Copy)]
 pub struct Plan {
     pub sleeps: bool,
     pub bitset: u32,
@@ -87,7 +87,7 @@ fn chosen(
 }
 
 // Whom a call takes: the first run, the next move.
-#[derive(Drop)]
+#[derive(Clone, Copy)]
 struct Takes {
     taken: [u16; State::THREADS_PER_PROCESS],
     released: usize,
@@ -121,7 +121,7 @@ fn taken_by(v: View, c: Call, holds: bool) -> Takes
 
 // What the operation of a WAKE_OP makes of a word, and whether its comparison with the old word holds. Of any other call val3 is no
 // operation, and no branch is taken by it.
-#[derive(Drop)]
+#[derive(Clone, Copy)]
 struct Operated {
     holds: bool,
     word: u32,

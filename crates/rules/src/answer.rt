@@ -5,7 +5,7 @@ ghost use Rattle.rules.specs.Answers.{errno_number, reason_number};
 use tables::State;
 
 // The error numbers of the Linux headers that a refusal can give.
-#[derive(Drop)]
+#[derive(Clone, Copy)]
 pub enum Errno {
     ENXIO,
     EBADF,
@@ -37,7 +37,7 @@ impl Errno {
 }
 
 // What is wrong with an event that is refused with -22.
-#[derive(Drop)]
+#[derive(Clone, Copy)]
 pub enum Reason {
     NoReason,
     FirstCap,
@@ -69,28 +69,28 @@ impl Reason {
 }
 
 // An error, and the reason beside it.
-#[derive(Drop)]
+#[derive(Clone, Copy)]
 pub struct Refusal {
     pub errno: Errno,
     pub reason: Reason,
 }
 
 // The tests of the table of answers: the first that applies refuses.
-#[derive(Drop)]
+#[derive(Clone, Copy)]
 pub enum Verdict {
     Refuse(Refusal),
     Pass,
 }
 
 // The waiting threads of a process: bit i for thread i, how many, and the lowest.
-#[derive(Drop)]
+#[derive(Clone, Copy)]
 pub struct Panel {
     pub waiting: u8,
     pub count: u32,
     pub lowest: u32,
 }
 
-#[derive(Drop)]
+#[derive(Clone, Copy)]
 pub enum Answer {
     Asleep,
     Count(u32),
@@ -99,7 +99,7 @@ pub enum Answer {
 }
 
 // What an event is answered, and the tables that it leaves.
-#[derive(Drop)]
+#[derive(Clone, Copy)]
 pub struct Answered {
     pub answer: Answer,
     pub state: State,

@@ -1,7 +1,7 @@
 // What can happen to the kernel: calls, stores, clock events, interrupts, panel queries and set priorities.
 
 // The commands of linux/futex.h that the kernel knows.
-#[derive(Drop)]
+#[derive(Clone, Copy)]
 pub enum Command {
     Wait,
     Wake,
@@ -14,7 +14,7 @@ pub enum Command {
 }
 
 // Which arguments a command uses, besides uaddr.
-#[derive(Drop)]
+#[derive(Clone, Copy)]
 pub struct Uses {
     // val as a wake cap
     pub cap: bool,
@@ -31,7 +31,7 @@ pub struct Uses {
 }
 
 // A futex call, with the argument names of futex(2); flag says whether a timeout is given.
-#[derive(Drop)]
+#[derive(Clone, Copy)]
 pub struct Call {
     pub process: u8,
     pub index: u8,
@@ -44,7 +44,7 @@ pub struct Call {
     pub val3: u32,
 }
 
-#[derive(Drop)]
+#[derive(Clone, Copy)]
 pub enum Event {
     Call(Call),
     Store {

@@ -22,7 +22,7 @@ pub const PROCESS_BYTES: u32 = WORD_BYTES * (State::WORDS_PER_PROCESS as u32);
 pub const MAX_PRIORITY: u8 = 31;
 
 // How a thread's last ended sleep was answered; no other value can be held.
-#[derive(Drop)]
+#[derive(Clone, Copy)]
 pub enum LastAnswer {
     NoneYet,
     Woken,
@@ -32,7 +32,7 @@ pub enum LastAnswer {
 
 // A thread record: running or waiting; the word's address, the waiter's mask, whether it has a deadline and the deadline; the answer of
 // its last ended sleep; and its base priority.
-#[derive(Drop)]
+#[derive(Clone, Copy)]
 pub struct Thread {
     pub waiting: bool,
     pub uaddr: u32,
@@ -44,7 +44,7 @@ pub struct Thread {
 }
 
 // The tables: a clock in nanoseconds, a record for each thread, and the arrival list with its count.
-#[derive(Drop)]
+#[derive(Clone, Copy)]
 pub struct State {
     pub clock: u64,
     pub threads: [Thread; THREADS],
@@ -53,7 +53,7 @@ pub struct State {
 }
 
 // What happens to a sleeper: its sleep ends with an answer, or it moves to another address.
-#[derive(Drop)]
+#[derive(Clone, Copy)]
 pub enum Change {
     End(LastAnswer),
     MoveTo(u32),
@@ -161,7 +161,7 @@ impl Thread {
 }
 
 // Tables after a change, and how many sleepers it took.
-#[derive(Drop)]
+#[derive(Clone, Copy)]
 pub struct Taken {
     pub state: State,
     pub n: u32,

@@ -15,7 +15,7 @@ use tables::{THREADS, WORDS};
 const WORDS_SIZE: usize = WORD_SIZE * WORDS;
 
 // The first two rows of the table of answers; and, where neither refuses, where each thread stands in the arrival list.
-#[derive(Drop)]
+#[derive(Clone, Copy)]
 pub(crate) struct Lent {
     pub(crate) verdict: Verdict,
     pub(crate) place: [u8; THREADS],
