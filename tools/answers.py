@@ -44,7 +44,7 @@ class Names:
             self.places.setdefault(plain(old), new)
         self.fields = {}
         for _, _, (old, new), _, _ in made["places"]:
-            if old and old != new:
+            if old:
                 self.fields.setdefault(plain(old), []).append(new)
         self.loops = {plain(old): (new, live, changed) for ((old, new), live), changed in zip(made["loops"], made["changed"])}
         self.args = [(a.replace(" ", ""), b.replace(" ", "")) for a, b in made["args"]]
@@ -170,6 +170,8 @@ class Turner:
             if re.fullmatch(r"t\d+", m[1]) and m[1] in last:
                 return "." + last[m[1]]
             news = self.names.fields.get(plain(m[1]))
+            if m[1] == "well-formed":
+                return ".well_formed"
             if not news:
                 return m[0]
             if len(set(news)) > 1:

@@ -1,0 +1,15 @@
+use mathlib.Core.Path.{◌≡◌}
+use lib.ListN.{length, length-map}
+use Rattle.tables.specs.Sizes.{threads}
+use Rattle.tables.proofs.Stored.{sets_priority}
+use Rattle.tables.proofs.State.set_priority.Goals as goal
+use Rattle.tables.proofs.State.set_priority.Goals.{Start}
+
+long : (c : Start) → length c.args.self.threads ≡ threads
+long c = simp length-map at c.well_formed.0.1.1.1.0.1.0.1
+
+pub returns : goal.returns
+returns c =
+    let g = c.before.before in
+    let s = g.args.self in
+    sets_priority g.args.priority g.args.t s c.with_priority-new.result (long g) g.requires c.with_priority-new.ensures
