@@ -158,27 +158,44 @@ def public(block):
 
 class Turner:
     def __init__(self, names, said):
-        self.names, self.said, self.at = names, said, set()
+        self.names, self.said, self.at, self.renamed = names, said, set(), {}
 
-    def body(self, text):
+    def body(self, text, places=("c",)):
+        """A clause's text: places are the variables that hold a place of the code."""
         for old, new in self.names.args:
             text = re.sub(re.escape(old) + r"(?![\w₀-₉'-])", new, text)
-
+        text = re.sub(r'(?<![^\s(){},;@"«»\[\]])([^\s(){}.;,@"«»\[\]]+)', lambda m: self.renamed.get(m[1], m[1]), text)
+        places = set(places) | set(re.findall(r"\((\w+) : tie\.(?!Need)", text))
+        lets = re.findall(r"\blet (\S+) = (\w+)((?:\.before)*) in\b", text)
+        for name, of, _ in lets:
+            if of in places:
+                places.add(name)
+        for name, of, chain in lets:
+            bare = re.search(rf'(?<![^\s(){{}},;@"«»\[\]]){re.escape(name)}(?![^\s(){{}},;@"«»\[\]])(?! =)', text)
+            if of in places and chain and not bare:
+                text = text.replace(f"let {name} = {of}{chain} in", f"let {name} = {of} in")
         last = {old.split(".")[-1]: new.split(".")[-1] for old, new in self.names.args if old.startswith(".args.")}
 
-        def field(m):
-            if re.fullmatch(r"t\d+", m[1]) and m[1] in last:
-                return "." + last[m[1]]
-            news = self.names.fields.get(plain(m[1]))
-            if m[1] == "well-formed":
-                return ".well_formed"
-            if not news:
-                return m[0]
-            if len(set(news)) > 1:
-                self.said.append(f"field {m[1]} is one of {sorted(set(news))}")
-            return "." + news[0]
+        def path(m):
+            steps = m[0].split(".")
+            if steps[0] in places:
+                rest = [x for x in steps[1:]]
+                n = 0
+                while n < len(rest) and rest[n] == "before":
+                    n += 1
+                if n < len(rest):
+                    first = rest[n]
+                    news = self.names.fields.get(plain(first))
+                    if first == "well-formed":
+                        first = "well_formed"
+                    elif news:
+                        if len(set(news)) > 1:
+                            self.said.append(f"field {first} is one of {sorted(set(news))}")
+                        first = news[0]
+                    steps = [steps[0], first] + rest[n + 1 :]
+            return ".".join(last[x] if k and re.fullmatch(r"t\d+", x) and x in last else x for k, x in enumerate(steps))
 
-        text = re.sub(r'\.([^\s(){}.;,@"«»\[\]]+)', field, text)
+        text = re.sub(r'(?<![^\s(){},;@"«»\[\]])[^\s(){}.;,@"«»\[\]]+(?:\.[^\s(){}.;,@"«»\[\]]+)+', path, text)
 
         def place(m):
             name = m[1]
@@ -240,7 +257,7 @@ def answer(block, turner, said):
     new = turner.names.needs.get(plain(need))
     clauses = code[m.end() :]
     body = clauses.split("=", 1)[1].strip() if "=" in clauses else ""
-    if SEARCHES.match(body):
+    if SEARCHES.match(body) or re.match(r"simp length-map at c\.well-formed", body):
         return None, name, new
     if not new:
         said.append(f"nothing asks for {need} now")
@@ -254,7 +271,9 @@ def answer(block, turner, said):
     clauses = re.sub(rf"^({re.escape(new)} \S+)(?: κs\S*)(?: =|(?= ))", lambda k: k[1] + (" =" if k[0].endswith("=") else ""), clauses)
     if "κ" in clauses:
         said.append(f"{new} names lifetimes")
-    return "\n".join(comments + [f"pub {new} : goal.{new}"] + ([unfolding.strip()] if unfolding else []) + [turner.body(clauses)]), name, new
+    head, rest = re.split(r" =(?=\s)", clauses, maxsplit=1)
+    clauses = f"{head} =" + turner.body(rest, (head.split()[1],))
+    return "\n".join(comments + [f"pub {new} : goal.{new}"] + ([unfolding.strip()] if unfolding else []) + [clauses]), name, new
 
 
 def turn(crate, folder, made):
@@ -271,6 +290,10 @@ def turn(crate, folder, made):
     uses = [u for u in uses if not re.search(r"\.(?:Tie as tie|Statement\.\{statement\})$", u)]
     given, answers, helpers, renamed = [], [], [], {}
     for block in parts:
+        m = re.match(r"(\S+) : tie\.Need-(\S+)", code_of(block))
+        if m and names.needs.get(plain(m[2])):
+            turner.renamed[m[1]] = names.needs[plain(m[2])]
+    for block in parts:
         code = code_of(block)
         if re.match(r"(?:pub )?abbrev (?:pub )?(?:invariant|decreases)-\S+ : tie\.", code):
             given.append(instance(block, names, said))
@@ -283,6 +306,7 @@ def turn(crate, folder, made):
         elif re.match(r"(?:pub )?\S+[-_]spec : ", code) and "tie." in code:
             continue
         else:
+            block = re.sub(r"= simp length-map at c\.well-formed\S*", "= search rules", block)
             helpers.append((len(answers), block))
     # what invariants name, and what that names
     needed, moved = uses_of("\n".join(given)), []
@@ -308,9 +332,6 @@ def turn(crate, folder, made):
         if made_of:
             out.append(made_of)
     body = "\n\n".join(out)
-    for old, new in renamed.items():
-        if old != new:
-            body = re.sub(rf'(?<![^\s(){{}};,@"«»\[\]]){re.escape(old)}(?![^\s(){{}}.;,@"«»\[\]])', new, body)
     if answers:
         pub = [n for _, b in moved for n in declared(public(b))]
         pub = [n for n in dict.fromkeys(pub) if n in uses_of(body) and not re.search(rf"(?m)^ +pub {re.escape(n)} :", "\n".join(public(b) for _, b in moved if re.match(r"(?:pub )?record", code_of(b))))]

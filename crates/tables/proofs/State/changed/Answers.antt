@@ -2,7 +2,7 @@ use borrow.Author.Rules.{rules}
 use mathlib.Core.Path.{◌≡◌, sym, ap, ◌∙◌}
 use Prim.Native.Nat.{◌+◌, ◌-◌}
 use native.Mathlib.Omega.{arith}
-use lib.ListN.{length, drop, get_or, length-map, length-drop}
+use lib.ListN.{length, drop, get_or, length-drop}
 use lib.Seq.{get_or-drop}
 use Rattle.tables.specs.Sizes.{threads}
 use Rattle.tables.specs.Tables.{with_threads}
@@ -17,7 +17,7 @@ loop-i-init c =
     record { within = omega arith; done = ap (λ rs. with_threads rs s) (sym (change_none (changed_by c.args.how) s.threads)) }
 
 pub overflow_add-e : goal.overflow_add-e
-overflow_add-e c = omega (arith, c.before.before.requires.few)
+overflow_add-e c = omega (arith, c.requires.few)
 
 pub bounds-ts-from : goal.bounds-ts-from
 bounds-ts-from c = omega arith
@@ -41,27 +41,27 @@ pub loop-i-smaller : goal.loop-i-smaller
 loop-i-smaller c = omega arith
 
 long : (c : Start) → length c.args.self.threads ≡ threads
-long c = simp length-map at c.well_formed.0.1.1.1.0.1.0.1
+long c = search rules
 
 size : (c : Start) → length c.args.ts ≡ threads
 size c = search rules
 
 pub loop-i-preserved : goal.loop-i-preserved
 loop-i-preserved c =
-    let k = c.before.before.before in
+    let k = c in
     let g = k.before.before in
-    let i = k.before.loop-i.i in
+    let i = k.loop-i.i in
     let from = g.args.from in
     let e = g.requires.below (from + i) (omega arith) in
-    let x : c.before.before.index_of-x.result ≡ get_or (drop from g.args.ts) i 0 =
-    c.before.before.index_of-x.ensures ∙ omega arith ∙ sym (get_or-drop from g.args.ts i 0) in
+    let x : c.index_of-x.result ≡ get_or (drop from g.args.ts) i 0 =
+    c.index_of-x.ensures ∙ omega arith ∙ sym (get_or-drop from g.args.ts i 0) in
     record {
       within = omega arith;
-      done = changed_next g.args.how g.args.self k.before.loop-i.self (drop from g.args.ts) i c.before.before.index_of-x.result c.changed-u.result
-          (omega (arith, size g, g.requires.few, length-drop from g.args.ts)) (omega (arith, long g)) k.before.loop-i.invariant.done x c.changed-u.ensures;
+      done = changed_next g.args.how g.args.self k.loop-i.self (drop from g.args.ts) i c.index_of-x.result c.changed-u.result
+          (omega (arith, size g, g.requires.few, length-drop from g.args.ts)) (omega (arith, long g)) k.loop-i.invariant.done x c.changed-u.ensures;
     }
 
 pub returns : goal.returns
 returns c =
-    let e : c.before.loop-i.i ≡ c.before.before.args.n = omega arith in
-    c.before.loop-i.invariant.done ∙ rw e
+    let e : c.loop-i.i ≡ c.args.n = omega arith in
+    c.loop-i.invariant.done ∙ rw e

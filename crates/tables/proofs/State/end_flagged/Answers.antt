@@ -6,11 +6,11 @@ use Rattle.tables.proofs.State.end_flagged.Goals as goal
 use Rattle.tables.proofs.State.end_flagged.Goals.{After-split_by-parts}
 
 pub split_by-parts-requires : goal.split_by-parts-requires
-split_by-parts-requires c = let g = c.before in list_numbers g.args.self (tables_sound g.args.self g.requires)
+split_by-parts-requires c = let g = c in list_numbers g.args.self (tables_sound g.args.self g.requires)
 
-numbers : (c : After-split_by-parts) → Numbers c.split_by-parts.result.taken-1 c.split_by-parts.result.n
+numbers : (c : After-split_by-parts) → Numbers c.split_by-parts.result.taken c.split_by-parts.result.n
 numbers c =
-    let g = c.before.before in
+    let g = c in
     split_numbers g.args.self (tables_sound g.args.self g.requires) (flagged g.args.flags) c.split_by-parts.result c.split_by-parts.ensures
 
 pub overflow_cast-n : goal.overflow_cast-n
@@ -21,7 +21,7 @@ changed-s-requires c = fewer_numbers _ _ _ (omega arith) (numbers c.before.befor
 
 pub returns : goal.returns
 returns c =
-    let k = c.before.before.before.before in
-    let g = k.before.before in
+    let k = c in
+    let g = k in
     ends g.args.self (tables_sound g.args.self g.requires) (flagged g.args.flags) k.split_by-parts.result k.split_by-parts.ensures
-    g.args.last c.before.changed-s.result c.before.changed-s.ensures
+    g.args.last c.changed-s.result c.changed-s.ensures

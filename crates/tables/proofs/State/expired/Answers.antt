@@ -24,9 +24,9 @@ loop-i-smaller c = omega arith
 
 pub loop-i-preserved : goal.loop-i-preserved
 loop-i-preserved c =
-    let k = c.before.before.before in
-    let g = k.before in
+    let k = c in
+    let g = k in
     filled_next (due g.args.now g.args.self) k.loop-i.flags k.loop-i.i c.has_expired-hit.result k.loop-i.invariant (omega arith) c.has_expired-hit.ensures
 
 pub returns : goal.returns
-returns c = filled_all _ _ _ c.before.loop-i.invariant (omega arith)
+returns c = filled_all _ _ _ c.loop-i.invariant (omega arith)

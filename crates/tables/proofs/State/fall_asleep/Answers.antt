@@ -18,6 +18,6 @@ overflow_add-self c = let l = free c.before.before in search rules
 
 pub returns : goal.returns
 returns c =
-    let g = c.before.before in
+    let g = c in
     falls_asleep g.args.self (tables_sound g.args.self g.requires.0) g.args.t g.args.uaddr g.args.bitset g.args.timed g.args.deadline
     c.asleep_at-new.result g.requires.1.0 g.requires.1.1 c.asleep_at-new.ensures

@@ -1,12 +1,13 @@
 use mathlib.Core.Path.{◌≡◌}
-use lib.ListN.{length, length-map}
+use borrow.Author.Rules.{rules}
+use lib.ListN.{length}
 use Rattle.tables.specs.Sizes.{threads}
 use Rattle.tables.proofs.Stored.{sets_priority}
 use Rattle.tables.proofs.State.set_priority.Goals as goal
 use Rattle.tables.proofs.State.set_priority.Goals.{Start}
 
 long : (c : Start) → length c.args.self.threads ≡ threads
-long c = simp length-map at c.well_formed.0.1.1.1.0.1.0.1
+long c = search rules
 
 pub returns : goal.returns
 returns c =

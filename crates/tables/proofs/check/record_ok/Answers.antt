@@ -3,4 +3,4 @@ use Rattle.tables.proofs.check.record_ok.Goals as goal
 
 pub returns : goal.returns
 unfolding record_ok
-returns c = rw c.before.sleep_ok-sleep.ensures
+returns c = rw c.sleep_ok-sleep.ensures

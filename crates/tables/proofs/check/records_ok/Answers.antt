@@ -1,9 +1,10 @@
 use mathlib.Core.Path.{◌≡◌, refl, sym, ap, ◌∙◌}
 use mathlib.Core.Bool.{Bool, ◌&&◌, and_assoc, and_comm}
-use Prim.Native.Nat.{ℕ, ◌+◌, ◌-◌}
+use Prim.Native.Nat.{ℕ, ◌+◌}
 use lib.Dec.{eqb}
 use native.Mathlib.Omega.{arith}
-use lib.ListN.{length, length-map}
+use borrow.Author.Rules.{rules}
+use lib.ListN.{length}
 use Rattle.lists.specs.Lists.{all, every_below, count_below}
 use Rattle.lists.proofs.Count.{count_next, count_below_le, tested_start, tested_next, tested_all, every_below_and}
 use Rattle.lists.proofs.Tabulate.{all_below}
@@ -14,7 +15,7 @@ use Rattle.tables.proofs.check.records_ok.Goals as goal
 use Rattle.tables.proofs.check.records_ok.Goals.{Start}
 
 long : (c : Start) → length c.args.s.threads ≡ threads
-long c = simp length-map at c.well_formed.0.1.1.1.0.1.0.1
+long c = search rules
 
 pub loop-i-init : goal.loop-i-init
 unfolding count_below
@@ -31,8 +32,8 @@ bounds-place-i c = omega arith
 
 pub overflow_add-n : goal.overflow_add-n
 overflow_add-n c =
-    let at = c.before.before.before.before.before.loop-i in
-    omega (arith, at.invariant.counted, count_below_le at.i (waits c.before.before.before.before.before.before.args.s), at.invariant.tested.within, c.one_if-n.ensures.1)
+    let at = c.loop-i in
+    omega (arith, at.invariant.counted, count_below_le at.i (waits c.args.s), at.invariant.tested.within, c.one_if-n.ensures.1)
 
 pub overflow_add-i : goal.overflow_add-i
 overflow_add-i c = omega arith
@@ -42,11 +43,11 @@ loop-i-smaller c = omega arith
 
 pub loop-i-preserved : goal.loop-i-preserved
 loop-i-preserved c =
-    let k = c.before.before.before.before.before in
-    let s = k.before.args.s in
-    let place = k.before.args.place in
+    let k = c in
+    let s = k.args.s in
+    let place = k.args.place in
     record {
-      tested = rw and_assoc (tested_next threads (good s place) k.loop-i.ok _ k.loop-i.i k.loop-i.invariant.tested (omega arith) (ap (◌&& agrees s place k.loop-i.i) c.before.before.record_ok-good.ensures));
+      tested = rw and_assoc (tested_next threads (good s place) k.loop-i.ok _ k.loop-i.i k.loop-i.invariant.tested (omega arith) (ap (◌&& agrees s place k.loop-i.i) c.record_ok-good.ensures));
       counted = (λ j. k.loop-i.invariant.counted j + c.one_if-n.ensures.0 j) ∙ sym (count_next k.loop-i.i (waits s));
     }
 
@@ -55,7 +56,7 @@ returns c =
     let g = c.before.before in
     let s = g.args.s in
     let place = g.args.place in
-    let at = c.before.loop-i in
+    let at = c.loop-i in
     let end : at.i ≡ threads = omega (arith, at.invariant.tested.within) in
     let records : ℕ → Bool = λ t. record_ok s.clock (thread_of s t) in
     let whole : all (record_ok s.clock) s.threads ≡ every_below threads records = all_below (record_ok s.clock) s.threads fresh_thread ∙ rw (long g) in
