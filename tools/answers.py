@@ -170,9 +170,12 @@ class Turner:
         for name, of, _ in lets:
             if of in places:
                 places.add(name)
+        kept = {n for n, _, _ in lets if re.search(rf'(?<![^\s(){{}},;@"«»\[\]]){re.escape(n)}(?![^\s(){{}},;@"«»\[\]])(?! =)', text)}
+        for name, of, _ in reversed(lets):
+            if name in kept:
+                kept.add(of)
         for name, of, chain in lets:
-            bare = re.search(rf'(?<![^\s(){{}},;@"«»\[\]]){re.escape(name)}(?![^\s(){{}},;@"«»\[\]])(?! =)', text)
-            if of in places and chain and not bare:
+            if of in places and chain and name not in kept:
                 text = text.replace(f"let {name} = {of}{chain} in", f"let {name} = {of} in")
         last = {old.split(".")[-1]: new.split(".")[-1] for old, new in self.names.args if old.startswith(".args.")}
 

@@ -95,7 +95,7 @@ module _ {ed : Edition} (s : State) (g : SoundIn ed s) where
     where
       fewer : (u : ℕ) → occurs u (t ∷ arrivals s) ≤ 1
       fewer u = cases (eqb u t)
-          (λ k. rw (k, eqb-true u t k, g.exact t, e) (omega arith))
+          (λ k. omega (arith, ap bit k, ap (λ v. occurs v (arrivals s)) (eqb-true u t k), g.exact t, ap bit e))
           (λ k. rw k (omega (arith, once u)))
 
       none : (u : ℕ) → threads_in ed ≤ u → occurs u (t ∷ arrivals s) ≡ 0

@@ -5,7 +5,6 @@ use Prim.Native.Nat.{ℕ, ◌-◌, ◌≤◌}
 use lib.ListN.{take, drop}
 use Rattle.tables.specs.declared.State.{State}
 use Rattle.tables.specs.declared.Change.{Change}
-use Rattle.tables.specs.Sizes.{threads}
 use Rattle.tables.specs.Tables.{change, with_threads}
 use Rattle.tables.specs.Steps.{changed_by}
 use Rattle.tables.proofs.State.changed.Given as goal

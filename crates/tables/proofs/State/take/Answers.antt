@@ -37,8 +37,8 @@ overflow_sub-s c =
 
 pub returns : goal.returns
 returns c =
-    let k = c in
-    let r = k in
+    let k = c.before in
+    let r = k.before in
     let g = r.before.before in
     takes g.args.self (sound g) g.args.place g.args.ts g.args.n g.args.m g.requires.1 (long g) g.args.last g.args.uaddr
     k.changed-rest.result k.changed-rest.ensures c.changed-s.result c.changed-s.ensures r.relisted-all.result r.relisted-all.ensures

@@ -24,7 +24,7 @@ returns-then-s-gt-THREADS c =
 
 pub returns : goal.returns
 returns c =
-    let k = c in
+    let k = c.before.before.before.before in
     let g = k.before.before.before.before in
     checked g.args.s k.places_in-found.result.low c.tail_ok-tail.result c.records_ok-records.result k.places_in-found.result.place
     (long g) (entries g) k.if-s-gt-THREADS.false k.places_in-found.ensures c.tail_ok-tail.ensures c.records_ok-records.ensures
