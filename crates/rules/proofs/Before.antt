@@ -25,8 +25,8 @@ use Rattle.rules.specs.Commands.{command_of}
 use Rattle.rules.specs.Signed.{negative}
 use Rattle.rules.specs.WakeOp.{arg_bits, is_power, op_arg_field, cmp_arg_field}
 use Rattle.rules.specs.Calls.{caller, is_wake_op, old_word, rows_in, released_second, wait, wake, requeue, wake_op, call_effect}
-use Rattle.rules.specs.Events.{own_rows, is_query, refusals, clock_effect, interrupt_effect, effect, step}
-use Rattle.rules.specs.Before.{row_without_reason, refusals_without_reasons, step_without_reasons, without_reason, effect_unsigned, step_unsigned, none_negative, minus12, numbers_with12, OutcomeWith12, as_with12, full, judged_with12, step_with12}
+use Rattle.rules.specs.Events.{own_rows, is_query, of_call, refusals, clock_effect, interrupt_effect, effect, step}
+use Rattle.rules.specs.Before.{own_rows_without_reasons, row_without_reason, refusals_without_reasons, step_without_reasons, without_reason, effect_unsigned, step_unsigned, none_negative, minus12, numbers_with12, OutcomeWith12, as_with12, full, judged_with12, step_with12}
 use Rattle.rules.specs.Claims.{Clear}
 use Rattle.tables.proofs.Sound.{room}
 use Rattle.rules.proofs.ByEvent.{by_call}
@@ -37,6 +37,11 @@ use Rattle.rules.proofs.Arguments.{by_errno, arguments_one}
 use Rattle.rules.proofs.Commands.{by_command}
 use Rattle.rules.proofs.WakeOp.{new_word_plain, compares_plain}
 
+-- of an event that asks nothing, the rows before are those now, their reasons taken away
+before_own : (e : Event) (w : World) → ((A : Type 0) (f : Call → A) (x : A) → of_call f x e ≡ x)
+    → own_rows_without_reasons e w ≡ map row_without_reason (own_rows e w)
+before_own e w none = none (List Row) _ _
+
 module _ {ℓ} {A : Type ℓ} (f : Errno → A) where
   plain_rows : (rs : List Row) (below : A) → by_errno f rs below ≡ by_errno f (map row_without_reason rs) below
   plain_rows [] below = refl
@@ -46,7 +51,7 @@ module _ {ℓ} {A : Type ℓ} (f : Errno → A) where
   unfolding refusals refusals_without_reasons rows_in
   rows_before e w below = by_call (λ e. by_errno f (refusals e w) below ≡ by_errno f (refusals_without_reasons e w) below)
       (λ c. rw (arguments_one f (command_of c.op) c _ below))
-      (λ e none. cases (is_query e) (λ q. rw q) (λ q. rw (q, none (List Row) _ _, plain_rows (own_rows e w) below))) e
+      (λ e none. cases (is_query e) (λ q. rw q) (λ q. let same = before_own e w none in rw (q, same, plain_rows (own_rows e w) below))) e
 
 -- a step by its errors: of the rules that hold now, reasons taken away, and of the rules before
 now_by_errno : (rs : List Row) (o : Outcome) (w : World)
@@ -72,7 +77,7 @@ plain_before : (e : Event) (w : World) → Plain (refusals_without_reasons e w)
 unfolding refusals_without_reasons
 plain_before e w = by_call (λ e. Plain (refusals_without_reasons e w))
     (λ c. refl and refl and refl and refl and refl and refl and refl and refl and refl and refl and tt)
-    (λ e none. cases (is_query e) (λ q. rw q tt) (λ q. rw (q, none (List Row) _ _) (refl and refl and plain_mapped (own_rows e w)))) e
+    (λ e none. cases (is_query e) (λ q. rw q tt) (λ q. let same = before_own e w none in rw (q, same) (refl and refl and plain_mapped (own_rows e w)))) e
 
 -- what an event does where nothing refuses it has no reason beside it
 command_plain : (k : Command) (c : Call) (w : World) → without_reason (call_effect k c w).answer ≡ (call_effect k c w).answer

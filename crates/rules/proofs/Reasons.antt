@@ -53,11 +53,13 @@ Rising n [] = Unit {0}
 Rising n (r ∷ rs) = (n ≤ reason_number r.refusal.reason) × Rising (reason_number r.refusal.reason) rs
 
 rising_all : (n : ℕ) (rs : List Row) → Rising n rs → (r : Row) → In r rs → n ≤ reason_number r.refusal.reason
+rising_all n [] h r i = elim i [ ]
 rising_all n (r ∷ rs) h _ at = h.0
 rising_all n (q ∷ rs) h r (behind i) = let rest = rising_all _ rs h.1 r i in omega (arith, h.0, rest)
 
 lowest : (n : ℕ) (rs : List Row) (x : Refusal) → Rising n rs → first rs ≡ Refuse x → (r : Row) → In r rs → r.applies ≡ true
     → reason_number x.reason ≤ reason_number r.refusal.reason
+lowest n [] x h f r i on = elim i [ ]
 lowest n (r ∷ rs) x h f _ at on = let same : r.refusal ≡ x = cc in rw (sym same) (omega arith)
 lowest n (q ∷ rs) x h f r (behind i) on = cases q.applies
     (λ e. let same : q.refusal ≡ x = cc in rw (sym same) (rising_all _ rs h.1 r i))

@@ -24,6 +24,7 @@ first_of x [] h = not_pass (sym h)
 first_of x (r ∷ rs) h = cases r.applies (λ e. here e (cc)) (λ e. later e (first_of x rs (cc)))
 
 pub of_first : (x : Refusal) (rs : List Row) → FirstOf x rs → first rs ≡ Refuse x
+of_first x [] f = elim f [ ]
 of_first x (r ∷ rs) (here e n) = cc
 of_first x (r ∷ rs) (later e f) = cc (of_first x rs f)
 
