@@ -160,7 +160,7 @@ class Turner:
     def __init__(self, names, said):
         self.names, self.said, self.at, self.renamed = names, said, set(), {}
 
-    def body(self, text, places=("c",)):
+    def body(self, text, places=("c",), goal=""):
         """A clause's text: places are the variables that hold a place of the code."""
         for old, new in self.names.args:
             text = re.sub(re.escape(old) + r"(?![\w₀-₉'-])", new, text)
@@ -189,6 +189,9 @@ class Turner:
                 if n < len(rest):
                     first = rest[n]
                     news = self.names.fields.get(plain(first))
+                    arm = re.search(r"-in-([A-Za-z]\w*)", goal) if rest[n + 1 : n + 3] == ["given", "1"] else None
+                    if arm:
+                        return ".".join([steps[0], "in-" + arm[1], "is"] + rest[n + 3 :])
                     if first == "well-formed":
                         first = "well_formed"
                     elif news:
@@ -196,6 +199,7 @@ class Turner:
                             self.said.append(f"field {first} is one of {sorted(set(news))}")
                         first = news[0]
                     steps = [steps[0], first] + rest[n + 1 :]
+            steps = ["type_inv" if x == "type-inv" else x for x in steps]
             return ".".join(last[x] if k and re.fullmatch(r"t\d+", x) and x in last else x for k, x in enumerate(steps))
 
         text = re.sub(r'(?<![^\s(){},;@"«»\[\]])[^\s(){}.;,@"«»\[\]]+(?:\.[^\s(){}.;,@"«»\[\]]+)+', path, text)
@@ -260,7 +264,7 @@ def answer(block, turner, said):
     new = turner.names.needs.get(plain(need))
     clauses = code[m.end() :]
     body = clauses.split("=", 1)[1].strip() if "=" in clauses else ""
-    if SEARCHES.match(body) or re.match(r"simp length-map at c\.well-formed", body):
+    if SEARCHES.match(body) or re.search(r"\.match\.(?:keys\d|rest)", body) or re.match(r"simp length-map at c\.well-formed", body):
         return None, name, new
     if not new:
         said.append(f"nothing asks for {need} now")
@@ -275,7 +279,7 @@ def answer(block, turner, said):
     if "κ" in clauses:
         said.append(f"{new} names lifetimes")
     head, rest = re.split(r" =(?=\s)", clauses, maxsplit=1)
-    clauses = f"{head} =" + turner.body(rest, (head.split()[1],))
+    clauses = f"{head} =" + turner.body(rest, (head.split()[1],), new)
     return "\n".join(comments + [f"pub {new} : goal.{new}"] + ([unfolding.strip()] if unfolding else []) + [clauses]), name, new
 
 

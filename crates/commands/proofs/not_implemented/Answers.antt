@@ -1,11 +1,9 @@
-use borrow.Author.Rules.{rules}
 use mathlib.Core.Path.{◌≡◌, refl}
 use Rattle.rules.specs.declared.event.Command.{Command}
 use mathlib.Core.Bool.{not, ◌||◌}
 use Rattle.rules.specs.declared.event.Command.TheVariants.{Wait, Wake, Requeue, CmpRequeue, WakeOp, WaitBitset, WakeBitset, Unknown}
 use Rattle.rules.specs.Commands.{command_of, is_unknown, not_implemented, uses}
-use Rattle.commands.proofs.not_implemented.Statement.{statement}
-use Rattle.commands.proofs.not_implemented.Tie as tie
+use Rattle.commands.proofs.not_implemented.Goals as goal
 
 unknown_uses : (k : Command) → is_unknown k ≡ not ((uses k).cap || (uses k).deadline)
 unknown_uses Wait = refl
@@ -17,12 +15,6 @@ unknown_uses WaitBitset = refl
 unknown_uses WakeBitset = refl
 unknown_uses Unknown = refl
 
-uses_by_requires : tie.Need-uses-by-requires
-uses_by_requires c κs = search rules
-
-returns : tie.Need-returns
+pub returns : goal.returns
 unfolding not_implemented
-returns c = rw (c.before.uses-by.ensures, unknown_uses (command_of c.before.before.args.op))
-
-pub not_implemented_spec : {M : Type 1} → statement M
-not_implemented_spec = tie.close (tie.spec uses_by_requires returns)
+returns c = rw (c.uses_by-u.ensures, unknown_uses (command_of c.args.op))
