@@ -189,6 +189,9 @@ class Turner:
                 if n < len(rest):
                     first = rest[n]
                     news = self.names.fields.get(plain(first))
+                    arm = re.search(r"-(in-\w+)$", goal) if first == "match" and re.match(r"keys\d", (rest[n + 1 :] or [""])[0]) else None
+                    if arm:
+                        return ".".join([steps[0], arm[1], "is"] + rest[n + 2 :])
                     arm = re.search(r"-in-([A-Za-z]\w*)", goal) if rest[n + 1 : n + 3] == ["given", "1"] else None
                     if arm:
                         return ".".join([steps[0], "in-" + arm[1], "is"] + rest[n + 3 :])
@@ -264,7 +267,7 @@ def answer(block, turner, said):
     new = turner.names.needs.get(plain(need))
     clauses = code[m.end() :]
     body = clauses.split("=", 1)[1].strip() if "=" in clauses else ""
-    if SEARCHES.match(body) or re.search(r"\.match\.(?:keys\d|rest)", body) or re.match(r"simp length-map at c\.well-formed", body):
+    if SEARCHES.match(body) or re.search(r"\.match\.rest", body) or re.match(r"simp length-map at c\.well-formed", body):
         return None, name, new
     if not new:
         said.append(f"nothing asks for {need} now")
