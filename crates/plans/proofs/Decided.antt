@@ -8,7 +8,7 @@ use lib.ListN.{length, take, drop, length-append}
 use lib.Seq.{take-add, take-append-le, drop-append_seam}
 use lib.Dec.{eqb}
 use borrow.Author.Tests.{eqb-true, eq-eqb}
-use Rattle.lists.specs.Lists.{all, elem, without, left_over, tabulate}
+use Rattle.lists.specs.Lists.{elem, without, left_over, tabulate}
 use Rattle.lists.proofs.Tests.{cases, clash, and_left, and_right}
 use Rattle.lists.proofs.Filter.{filter_true, filter_all}
 use Rattle.lists.proofs.Occurs.{occurs, elem_all, all_elem}

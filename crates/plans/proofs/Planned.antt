@@ -22,7 +22,7 @@ use Rattle.tables.proofs.Stored.{move_nobody}
 use Rattle.rules.specs.declared.event.Command.{Command}
 use Rattle.rules.specs.declared.event.Call.{Call}
 use Rattle.rules.specs.declared.answer.Answer.TheVariants.{Count}
-use Rattle.rules.specs.Answers.{Outcome, outcome}
+use Rattle.rules.specs.Answers.{outcome}
 use Rattle.rules.specs.Commands.{command_of, uses}
 use Rattle.rules.specs.WakeOp.{new_word}
 use Rattle.rules.specs.Calls.{matches, mask_of, timeout_given, deadline_of, released, moved, old_word, released_second, wait, wake, requeue, wake_op, call_effect}

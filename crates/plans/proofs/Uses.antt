@@ -1,5 +1,5 @@
 -- Which of the four kinds of call it is, by what its command uses.
-use mathlib.Core.Path.{◌≡◌, refl, sym, ap, ◌∙◌}
+use mathlib.Core.Path.{◌≡◌, refl, ◌∙◌}
 use mathlib.Core.Bool.{true, false, cond}
 use Rattle.lists.proofs.Tests.{clash}
 use Rattle.rules.specs.declared.event.Command.{Command}
