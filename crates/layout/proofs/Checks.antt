@@ -54,7 +54,7 @@ regroup : (o t p q g m n f r : Bool) → (g && p && q) ≡ (f && r) → (o && t 
 regroup false t p q g m n f r e = sym (and-false f)
 regroup true false p q g m n f r e = sym (and-false f)
 regroup true true p q g true true f r e = simp and-true (and_comm (p && q) g ∙ sym (and_assoc g p q) ∙ e)
-regroup true true p q g true false f r e = simp and-false (and-false (p && q))
+regroup true true p q g true false f r e = simp and-false
 regroup true true p q g false n f r e = rw (and-false g) (and-false (p && q) ∙ sym (and-false f))
 
 -- bytes of another length stand for no tables

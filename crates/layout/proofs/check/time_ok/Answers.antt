@@ -7,8 +7,7 @@ use borrow.Author.Tests.{eqb-true, eqb-false, ne_eqb, ltb-true, ltb-false, lt-lt
 use Rattle.lists.proofs.Tests.{cases, clash}
 use Rattle.tables.specs.Sizes.{word_limit}
 use Rattle.layout.specs.Check.{time_ok}
-use Rattle.layout.proofs.check.time_ok.Statement.{statement}
-use Rattle.layout.proofs.check.time_ok.Tie as tie
+use Rattle.layout.proofs.check.time_ok.Goals as goal
 
 -- two numbers in halves: which is less, and that one is 0
 module _ (l h dl dh : ℕ) (low : l < word_limit) (dlow : dl < word_limit) where
@@ -45,8 +44,5 @@ by_halves t dl dh l h dlow low =
     ∙ choose t (ltb (l + word_limit * h) (dl + word_limit * dh)) (eqb (dl + word_limit * dh) 0)
     (λ e. let less = ltb-true (l + word_limit * h) (dl + word_limit * dh) e in ne_eqb (dl + word_limit * dh) 0 (λ z. omega arith))
 
-returns : tie.Need-returns
+pub returns : goal.returns
 returns c = by_halves c.args.timed c.args.dlow c.args.dhigh c.args.low c.args.high (omega arith) (omega arith)
-
-pub time_ok_spec : {M : Type 1} → statement M
-time_ok_spec = tie.close (tie.spec returns)
