@@ -1,7 +1,7 @@
 // Cuts: runs a script of pieces on the reader of logs, and prints what came of each. It stands on pieces.
 #![tactic(auto)]
 
-ghost use Rattle.std.specs.Prelude.{◌+◌, ◌<◌, ◌≤◌, ◌≡◌, true, length};
+ghost use Rattle.std.specs.Prelude.{◌+◌, ◌<◌, ◌≤◌, ◌≡◌, true, length, IfOk};
 
 mod print;
 mod script;
@@ -9,6 +9,7 @@ mod sum;
 
 use pieces::{Ending, Found, ReaderState, feed, over, start};
 use script::Span;
+use std::io::Read;
 
 const BUFFER: usize = 65536;
 
@@ -122,41 +123,55 @@ struct Told {
     text: usize,
 }
 
-fn tell(r: ReaderState, part: Span, log: &[u8], out: &mut [u8], text: usize) -> Told
+fn tell(
+    rt: &impl Print,
+    r: ReaderState,
+    part: Span,
+    log: &[u8],
+    out: &mut [u8],
+    text: usize,
+) -> std::io::Result<Told>
     requires { (part.from ≤ part.to) × (part.to ≤ length log.now) × (110 ≤ length out.old) × (text ≤ length out.old) }
-    ensures { result.text ≤ length out.old }
+    ensures { IfOk result (λ t. t.text ≤ length out.old) }
 {
     let from = part.from;
     let to = part.to;
     let g = given_by(part.kind, r, &log[from..to]);
-    let k = print::line(part.kind, g, out, text);
+    let k = print::line(rt, part.kind, g, out, text)?;
     let after = g.state;
-    Told {
+    Ok(Told {
         state: after,
         text: k,
-    }
+    })
 }
 
-fn obey(r: Run, input: &mut [u8], log: &mut [u8], out: &mut [u8]) -> Run
+fn obey(
+    rt: &impl Print,
+    source: &mut impl Read,
+    r: Run,
+    input: &mut [u8],
+    log: &mut [u8],
+    out: &mut [u8],
+) -> std::io::Result<Run>
     requires { (34 ≤ length input.old) × (110 ≤ length out.old) × (r.at ≤ r.end) × (r.end ≤ length input.old) × (r.log ≤ length log.old) × (r.text ≤ length out.old) }
-    ensures { (result.at ≤ result.end) × (result.end ≤ length input.old) × (result.log ≤ length log.old) × (result.text ≤ length out.old) }
+    ensures { IfOk result (λ s. (s.at ≤ s.end) × (s.end ≤ length input.old) × (s.log ≤ length log.old) × (s.text ≤ length out.old)) }
 {
-    let p = script::filled(input, r.at, r.end);
+    let p = script::filled(source, input, r.at, r.end)?;
     let c = script::next_command(input, p.at, p.end);
     let before = r.state;
     let s = script::state_after(before, c.kind, input, c.body);
     let part = script::piece_of(c.kind, input, c.body, r.log);
-    let t = tell(s, part, log, out, r.text);
-    let l = script::log_after(c, part.kind, input, p.end, log, r.log);
+    let t = tell(rt, s, part, log, out, r.text)?;
+    let l = script::log_after(source, c, part.kind, input, p.end, log, r.log)?;
     let after = t.state;
-    Run {
+    Ok(Run {
         state: after,
         at: l.at,
         end: p.end,
         log: l.log,
         text: t.text,
         kind: l.kind,
-    }
+    })
 }
 
 fn left_after(left: usize, kind: u8) -> usize
@@ -172,7 +187,13 @@ fn left_after(left: usize, kind: u8) -> usize
     left - 1
 }
 
-fn play(input: &mut [u8], log: &mut [u8], out: &mut [u8])
+fn play(
+    rt: &impl Print,
+    source: &mut impl Read,
+    input: &mut [u8],
+    log: &mut [u8],
+    out: &mut [u8],
+) -> std::io::Result<()>
     requires { (34 ≤ length input.old) × (110 ≤ length out.old) }
 {
     let mut r = Run {
@@ -185,15 +206,15 @@ fn play(input: &mut [u8], log: &mut [u8], out: &mut [u8])
     };
     let mut left = COMMANDS;
     while left > 0 {
-        r = obey(r, input, log, out);
+        r = obey(rt, source, r, input, log, out)?;
         left = left_after(left, r.kind);
     }
-    print::last(out, r.text, r.kind == script::BAD);
+    print::last(rt, out, r.text, r.kind == script::BAD)
 }
 
-fn main() {
+fn main(rt: HostRuntime) -> std::io::Result<()> {
     let mut input = [0u8; BUFFER];
     let mut log = [0u8; LONGEST_LOG];
     let mut out = [0u8; BUFFER];
-    play(&mut input, &mut log, &mut out);
+    play(&rt, &mut rt.stdin(), &mut input, &mut log, &mut out)
 }

@@ -1,5 +1,5 @@
 // What a script prints: a line for each piece and each end of a log, gathered and written many at once.
-ghost use Rattle.std.specs.Prelude.{◌+◌, ◌<◌, ◌≤◌, ◌≡◌, length};
+ghost use Rattle.std.specs.Prelude.{◌+◌, ◌<◌, ◌≤◌, ◌≡◌, length, IfOk};
 
 use crate::{Given, least, script};
 use pieces::{Ending, HELD, ReaderState};
@@ -11,23 +11,24 @@ const DIGITS: usize = 20;
 const LINE: usize = 110;
 
 // The end of the text, once there is room for a line behind it.
-fn room(out: &[u8], k: usize) -> usize
+fn room(rt: &impl Print, out: &[u8], k: usize) -> std::io::Result<usize>
     requires { (110 ≤ length out.now) × (k ≤ length out.now) }
-    ensures { result + 110 ≤ length out.now }
+    ensures { IfOk result (λ j. j + 110 ≤ length out.now) }
 {
     if LINE <= out.len() - k {
-        return k;
+        return Ok(k);
     }
-    io::write_all(1, &out[0..k]);
-    0
+    rt.write_all(&out[0..k])?;
+    Ok(0)
 }
 
 fn put(t: &[u8], out: &mut [u8], k: usize) -> usize
     requires { k + length t.now ≤ length out.old }
     ensures { result ≡ k + length t.now }
 {
-    let n = bytes::copy(t, &mut out[k..]);
-    k + n
+    let end = k + t.len();
+    out[k..end].copy_from_slice(t);
+    end
 }
 
 fn put_decimal(n: u64, out: &mut [u8], k: usize) -> usize
@@ -124,23 +125,30 @@ fn put_line(g: Given, out: &mut [u8], k: usize) -> usize
 }
 
 // The line of a command, if it prints one.
-pub(crate) fn line(kind: u8, g: Given, out: &mut [u8], k: usize) -> usize
+pub(crate) fn line(
+    rt: &impl Print,
+    kind: u8,
+    g: Given,
+    out: &mut [u8],
+    k: usize,
+) -> std::io::Result<usize>
     requires { (110 ≤ length out.old) × (k ≤ length out.old) }
-    ensures { result ≤ length out.old }
+    ensures { IfOk result (λ j. j ≤ length out.old) }
 {
     if (kind == script::PIECE) | (kind == script::OVER) {
-        let j = room(out, k);
-        return put_line(g, out, j);
+        let j = room(rt, out, k)?;
+        return Ok(put_line(g, out, j));
     }
-    k
+    Ok(k)
 }
 
 // The text that is left, and the word that the script is bad, if it is.
-pub(crate) fn last(out: &[u8], k: usize, bad: bool)
+pub(crate) fn last(rt: &impl Print, out: &[u8], k: usize, bad: bool) -> std::io::Result<()>
     requires { k ≤ length out.now }
 {
-    io::write_all(1, &out[0..k]);
+    rt.write_all(&out[0..k])?;
     if bad {
-        io::write_all(1, b"bad script\n");
+        rt.write_all(b"bad script\n")?;
     }
+    Ok(())
 }

@@ -1,8 +1,10 @@
 // Scripts: commands of a letter and a body, numbers little-endian.
-ghost use Rattle.std.specs.Prelude.{◌+◌, ◌≤◌, ◌≡◌, length};
+ghost use Rattle.std.specs.Prelude.{◌+◌, ◌≤◌, ◌≡◌, length, IfOk};
+ghost use Rattle.io.specs.Counts.{IsPrefixLen};
 
 use crate::least;
 use pieces::{Ending, HELD, ReaderState, start};
+use std::io::Read;
 
 // The kinds that no letter has: the script's end, and what is no command.
 pub(crate) const END: u8 = 0;
@@ -29,23 +31,44 @@ pub(crate) struct Unread {
     pub(crate) end: usize,
 }
 
+// Reads until the buffer is full or the input ends, and returns how many bytes came.
+fn read_full(source: &mut impl Read, buffer: &mut [u8]) -> std::io::Result<usize>
+    ensures { IfOk result (λ n. IsPrefixLen n buffer.new) }
+{
+    let mut done: usize = 0;
+    while done < buffer.len() {
+        let got = source.read(&mut buffer[done..])?;
+        if got == 0 {
+            break;
+        }
+        done += got;
+    }
+    Ok(done)
+}
+
 // The buffer with a whole command from the place on, unless the script ends before: where there is none, the few bytes that are left move
 // to the start, and the input is asked for all that the buffer has room for. So a body can be read at any place.
-pub(crate) fn filled(input: &mut [u8], at: usize, end: usize) -> Unread
+pub(crate) fn filled(
+    source: &mut impl Read,
+    input: &mut [u8],
+    at: usize,
+    end: usize,
+) -> std::io::Result<Unread>
     requires { (34 ≤ length input.old) × (at ≤ end) × (end ≤ length input.old) }
-    ensures { (result.at ≤ result.end) × (result.end ≤ length input.old) × (result.at + 34 ≤ length input.old) }
+    ensures { IfOk result (λ u. (u.at ≤ u.end) × (u.end ≤ length input.old) × (u.at + 34 ≤ length input.old)) }
 {
     if LONGEST <= end - at {
-        return Unread { at: at, end: end };
+        return Ok(Unread { at: at, end: end });
     }
     let mut rest = [0u8; LONGEST];
-    let n = bytes::copy(&input[at..end], &mut rest);
-    bytes::copy(&rest[0..n], input);
-    let got = io::read_full(0, &mut input[n..]);
-    Unread {
+    let n = end - at;
+    rest[..n].copy_from_slice(&input[at..end]);
+    input[..n].copy_from_slice(&rest[..n]);
+    let got = read_full(source, &mut input[n..])?;
+    Ok(Unread {
         at: 0,
         end: n + got,
-    }
+    })
 }
 
 fn wide(x: u8) -> u32
@@ -144,7 +167,7 @@ fn state_at(input: &[u8], body: usize) -> ReaderState
     let ending = ending_of(input[body]);
     let count = byte(input, body + 1);
     let mut held = [0u8; HELD];
-    bytes::copy(&input[body + 2..body + 33], &mut held);
+    held.copy_from_slice(&input[body + 2..body + 33]);
     ReaderState {
         held: held,
         count: count as usize,
@@ -214,46 +237,54 @@ pub(crate) struct Loaded {
 }
 
 // A new log of n bytes: those that the buffer has, and what the input has to give of the others.
-fn load(n: usize, input: &[u8], at: usize, end: usize, log: &mut [u8]) -> Loaded
+fn load(
+    source: &mut impl Read,
+    n: usize,
+    input: &[u8],
+    at: usize,
+    end: usize,
+    log: &mut [u8],
+) -> std::io::Result<Loaded>
     requires { (at ≤ end) × (end ≤ length input.now) × (n ≤ length log.old) }
-    ensures { (result.log ≤ length log.old) × (result.at ≤ end) }
+    ensures { IfOk result (λ l. (l.log ≤ length log.old) × (l.at ≤ end)) }
 {
     let here = least(n, end - at);
-    bytes::copy(&input[at..at + here], log);
-    let got = io::read_full(0, &mut log[here..n]);
+    log[..here].copy_from_slice(&input[at..at + here]);
+    let got = read_full(source, &mut log[here..n])?;
     let kind = if got < n - here { BAD } else { LOG };
-    Loaded {
+    Ok(Loaded {
         log: n,
         at: at + here,
         kind: kind,
-    }
+    })
 }
 
 pub(crate) fn log_after(
+    source: &mut impl Read,
     c: Command,
     kind: u8,
     input: &[u8],
     end: usize,
     log: &mut [u8],
     n: usize,
-) -> Loaded
+) -> std::io::Result<Loaded>
     requires { (c.body + 33 ≤ length input.now) × (c.next ≤ end) × (end ≤ length input.now) × (n ≤ length log.old) }
-    ensures { (result.log ≤ length log.old) × (result.at ≤ end) }
+    ensures { IfOk result (λ l. (l.log ≤ length log.old) × (l.at ≤ end)) }
 {
     if kind != LOG {
-        return Loaded {
+        return Ok(Loaded {
             log: n,
             at: c.next,
             kind: kind,
-        };
+        });
     }
     let m = u32_at(input, c.body) as usize;
     if log.len() < m {
-        return Loaded {
+        return Ok(Loaded {
             log: n,
             at: c.next,
             kind: BAD,
-        };
+        });
     }
-    load(m, input, c.next, end, log)
+    load(source, m, input, c.next, end, log)
 }

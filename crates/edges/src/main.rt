@@ -8,6 +8,7 @@ mod print;
 mod script;
 
 use kernel::event::apply;
+use std::io;
 use tables::{State, WORDS};
 
 // One word more than the kernel takes, so that too long a memory can be lent.
@@ -45,52 +46,54 @@ fn words_after(words: [u32; MEMORY], kind: u8) -> [u32; MEMORY] {
     if kind == FRESH { [0; MEMORY] } else { words }
 }
 
-fn show_word(words: [u32; MEMORY], b: [u8; 32]) {
+fn show_word(rt: &impl Print, words: [u32; MEMORY], b: [u8; 32]) -> io::Result<()> {
     let process = (b[0] as usize) % 16;
     let place = script::u32_at(b, 1) / 4 % 65536;
     let i = State::WORDS_PER_PROCESS * process + place as usize;
     let word = if i < MEMORY { words[i] } else { 0 };
-    print::line(word as u64);
+    print::line(rt, word as u64)
 }
 
-fn turn(s: State, words: &mut [u32], kind: u8, b: [u8; 32]) -> State {
+fn turn(rt: &impl Print, s: State, words: &mut [u32], kind: u8, b: [u8; 32]) -> io::Result<State> {
     if script::is_event(kind) {
         let e = script::event_of(kind, b);
         let r = apply(s, words, e);
         let a = r.answer;
-        print::answer(a);
+        print::answer(rt, a)?;
         let next = r.state;
-        return next;
+        return Ok(next);
     }
     if kind == FRESH {
-        return State::fresh();
+        return Ok(State::fresh());
     }
     if kind == POKE {
-        return script::poke(s, b);
+        return Ok(script::poke(s, b));
     }
     if kind == DUMP {
-        print::tables(s);
+        print::tables(rt, s)?;
     }
-    s
+    Ok(s)
 }
 
-fn main() {
+fn main(rt: HostRuntime) -> io::Result<()> {
+    let mut input = rt.stdin();
     let mut words = [0u32; MEMORY];
     let mut s = State::fresh();
     let mut lent = WORDS;
     let mut left = RECORDS;
     while left > 0 {
-        let kind = script::next_kind();
+        let kind = script::next_kind(&mut input)?;
         if kind == 0 {
-            return;
+            return Ok(());
         }
-        let b = script::body(kind);
+        let b = script::body(&mut input, kind)?;
         lent = lent_after(lent, kind, b);
         words = words_after(words, kind);
-        s = turn(s, &mut words[..lent], kind, b);
+        s = turn(&rt, s, &mut words[..lent], kind, b)?;
         if kind == WORD {
-            show_word(words, b);
+            show_word(&rt, words, b)?;
         }
         left -= 1;
     }
+    Ok(())
 }

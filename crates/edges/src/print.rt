@@ -1,52 +1,54 @@
 // What a script prints: answers, words and tables.
 use crate::script::last_code;
 use rules::answer::{Answer, Reason};
+use std::io;
 use tables::{State, THREADS, Thread};
 
-fn text(t: &[u8]) {
-    io::write_all(1, t);
+fn text(rt: &impl Print, t: &[u8]) -> io::Result<()> {
+    rt.write_all(t)
 }
 
-fn number(n: u64) {
-    io::print_decimal(1, n);
+fn number(rt: &impl Print, n: u64) -> io::Result<()> {
+    rt.print(n)
 }
 
-fn spaced(n: u64) {
-    text(b" ");
-    number(n);
+fn spaced(rt: &impl Print, n: u64) -> io::Result<()> {
+    text(rt, b" ")?;
+    number(rt, n)
 }
 
-pub(crate) fn line(n: u64) {
-    number(n);
-    text(b"\n");
+pub(crate) fn line(rt: &impl Print, n: u64) -> io::Result<()> {
+    number(rt, n)?;
+    text(rt, b"\n")
 }
 
 // The reason, where there is one.
-fn reason(r: Reason) {
+fn reason(rt: &impl Print, r: Reason) -> io::Result<()> {
     let n = r.number();
     if n != 0 {
-        text(b" reason");
-        spaced(n as u64);
+        text(rt, b" reason")?;
+        spaced(rt, n as u64)?;
     }
+    Ok(())
 }
 
-pub(crate) fn answer(a: Answer) {
+pub(crate) fn answer(rt: &impl Print, a: Answer) -> io::Result<()> {
     match a {
-        Answer::Asleep => text(b"asleep\n"),
-        Answer::Count(n) => line(n as u64),
+        Answer::Asleep => text(rt, b"asleep\n"),
+        Answer::Count(n) => line(rt, n as u64),
         Answer::Refused(x) => {
-            text(b"-");
+            text(rt, b"-")?;
             let e = x.errno;
-            number(e.number() as u64);
+            number(rt, e.number() as u64)?;
             let r = x.reason;
-            reason(r);
-            text(b"\n");
+            reason(rt, r)?;
+            text(rt, b"\n")
         }
         Answer::Waiting(p) => {
-            number(p.waiting as u64);
-            spaced(p.count as u64);
-            spaced(p.lowest as u64);
-            text(b"\n");
+            number(rt, p.waiting as u64)?;
+            spaced(rt, p.count as u64)?;
+            spaced(rt, p.lowest as u64)?;
+            text(rt, b"\n")
         }
     }
 }
@@ -56,59 +58,62 @@ fn bit(b: bool) -> u64 {
 }
 
 // A thread's record, unless it is as in fresh tables.
-fn thread(i: usize, t: Thread) {
+fn thread(rt: &impl Print, i: usize, t: Thread) -> io::Result<()> {
     let a = t.last;
     let last = last_code(a);
     let changed = (last != 0) | (t.priority != 0);
     if changed | t.waiting | t.timed | (t.uaddr != 0) | (t.bitset != 0) | (t.deadline != 0) {
-        text(b"thread");
-        spaced(i as u64);
-        spaced(bit(t.waiting));
-        spaced(t.uaddr as u64);
-        spaced(t.bitset as u64);
-        spaced(bit(t.timed));
-        spaced(t.deadline);
-        spaced(last);
-        spaced(t.priority as u64);
-        text(b"\n");
+        text(rt, b"thread")?;
+        spaced(rt, i as u64)?;
+        spaced(rt, bit(t.waiting))?;
+        spaced(rt, t.uaddr as u64)?;
+        spaced(rt, t.bitset as u64)?;
+        spaced(rt, bit(t.timed))?;
+        spaced(rt, t.deadline)?;
+        spaced(rt, last)?;
+        spaced(rt, t.priority as u64)?;
+        text(rt, b"\n")?;
     }
+    Ok(())
 }
 
 // An entry of the list, with its place.
-fn entry(i: usize, e: u8) {
+fn entry(rt: &impl Print, i: usize, e: u8) -> io::Result<()> {
     if e != State::NO_ENTRY {
-        spaced(i as u64);
-        text(b":");
-        number(e as u64);
+        spaced(rt, i as u64)?;
+        text(rt, b":")?;
+        number(rt, e as u64)?;
     }
+    Ok(())
 }
 
-fn list(s: State) {
-    text(b"list");
+fn list(rt: &impl Print, s: State) -> io::Result<()> {
+    text(rt, b"list")?;
     let mut i: usize = 0;
     while i < THREADS {
         let e = s.list[i];
-        entry(i, e);
+        entry(rt, i, e)?;
         i += 1;
     }
-    text(b"\n");
+    text(rt, b"\n")
 }
 
-fn threads(s: State) {
+fn threads(rt: &impl Print, s: State) -> io::Result<()> {
     let mut i: usize = 0;
     while i < THREADS {
         let t = s.threads[i];
-        thread(i, t);
+        thread(rt, i, t)?;
         i += 1;
     }
+    Ok(())
 }
 
-pub(crate) fn tables(s: State) {
-    text(b"clock");
-    spaced(s.clock);
-    text(b" count");
-    spaced(s.count as u64);
-    text(b"\n");
-    list(s);
-    threads(s);
+pub(crate) fn tables(rt: &impl Print, s: State) -> io::Result<()> {
+    text(rt, b"clock")?;
+    spaced(rt, s.clock)?;
+    text(rt, b" count")?;
+    spaced(rt, s.count as u64)?;
+    text(rt, b"\n")?;
+    list(rt, s)?;
+    threads(rt, s)
 }

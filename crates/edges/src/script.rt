@@ -2,13 +2,14 @@
 ghost use Rattle.std.specs.Prelude.{◌≤◌, ◌<◌};
 
 use rules::event::{Call, Event};
+use std::io::{self, Read};
 use tables::{LastAnswer, State, THREADS, Thread};
 
 // The kind of the next record; 0 at the end of the script.
-pub(crate) fn next_kind() -> u8 {
+pub(crate) fn next_kind(input: &mut impl Read) -> io::Result<u8> {
     let mut one = [0u8; 1];
-    let n = io::read_full(0, &mut one);
-    if n == 0 { 0 } else { one[0] }
+    let n = input.read(&mut one)?;
+    Ok(if n == 0 { 0 } else { one[0] })
 }
 
 fn body_length(kind: u8) -> usize
@@ -28,12 +29,19 @@ fn body_length(kind: u8) -> usize
     }
 }
 
-// The body of a record, with zeros behind it.
-pub(crate) fn body(kind: u8) -> [u8; 32] {
+// The body of a record, with zeros behind it, and for what the script no longer has.
+pub(crate) fn body(input: &mut impl Read, kind: u8) -> io::Result<[u8; 32]> {
     let mut all = [0u8; 32];
     let n = body_length(kind);
-    io::read_full(0, &mut all[..n]);
-    all
+    let mut done: usize = 0;
+    while done < n {
+        let got = input.read(&mut all[done..n])?;
+        if got == 0 {
+            break;
+        }
+        done += got;
+    }
+    Ok(all)
 }
 
 fn byte(b: [u8; 32], i: usize) -> u32

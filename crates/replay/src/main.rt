@@ -1,13 +1,14 @@
 // Replay: reads a log from standard input, piece by piece, and prints what each event was answered. It stands on playback.
 #![tactic(auto)]
 
-ghost use Rattle.std.specs.Prelude.{◌<◌, length};
+ghost use Rattle.std.specs.Prelude.{◌<◌, length, IfOk};
 ghost use Rattle.io.specs.Counts.{IsPrefixLen};
 ghost use Rattle.playback.specs.Playback.{Within};
 
 use layout::{TABLES_SIZE, WORD_SIZE};
 use pieces::{Ending, ReaderState, start};
 use playback::{Replayed, finish, play};
+use std::io::{self, Read};
 use tables::WORDS;
 use text::LINE_ROOM;
 use vradomil::event::vradomil_fresh;
@@ -20,21 +21,18 @@ const TEXT: usize = LINE_ROOM * (PIECE + 1);
 // More pieces than this cannot come.
 const PIECES: u64 = 18446744073709551615;
 
-fn next_piece(piece: &mut [u8]) -> usize
-    ensures { IsPrefixLen result piece.new }
+fn next_piece(input: &mut impl Read, piece: &mut [u8]) -> io::Result<usize>
+    ensures { IfOk result (λ n. IsPrefixLen n piece.new) }
 {
-    let got = libc::read(0, piece);
-    io::count(got, piece)
+    input.read(piece)
 }
 
-fn show(text: Replayed, out: &[u8])
+fn show(rt: &impl Print, text: Replayed, out: &[u8]) -> io::Result<()>
     requires { Within text (length out.now) }
 {
     match text {
-        Replayed::Length(k) => {
-            io::write_all(1, &out[0..k]);
-        }
-        Replayed::NoRoom => {}
+        Replayed::Length(k) => rt.write_all(&out[0..k]),
+        Replayed::NoRoom => Ok(()),
     }
 }
 
@@ -54,14 +52,21 @@ fn pieces_left(left: u64, e: Ending, n: usize) -> u64
     }
 }
 
-fn run(tables: &mut [u8], words: &mut [u8], piece: &mut [u8], out: &mut [u8]) {
+fn run(
+    rt: &impl Print,
+    input: &mut impl Read,
+    tables: &mut [u8],
+    words: &mut [u8],
+    piece: &mut [u8],
+    out: &mut [u8],
+) -> io::Result<()> {
     let mut r = start();
     let mut left = PIECES;
     while left > 0 {
-        let n = next_piece(piece);
+        let n = next_piece(input, piece)?;
         let p = play(r, &piece[0..n], tables, words, out);
         let text = p.text;
-        show(text, out);
+        show(rt, text, out)?;
         let s = p.reader;
         let e = s.ending;
         left = pieces_left(left, e, n);
@@ -69,14 +74,21 @@ fn run(tables: &mut [u8], words: &mut [u8], piece: &mut [u8], out: &mut [u8]) {
     }
     let p = finish(r, out);
     let text = p.text;
-    show(text, out);
+    show(rt, text, out)
 }
 
-fn main() {
+fn main(rt: HostRuntime) -> io::Result<()> {
     let mut tables = [0u8; TABLES_SIZE];
     vradomil_fresh(&mut tables);
     let mut words = [0u8; WORD_SIZE * WORDS];
     let mut piece = [0u8; PIECE];
     let mut out = [0u8; TEXT];
-    run(&mut tables, &mut words, &mut piece, &mut out);
+    run(
+        &rt,
+        &mut rt.stdin(),
+        &mut tables,
+        &mut words,
+        &mut piece,
+        &mut out,
+    )
 }

@@ -1,29 +1,24 @@
 -- Texts written one behind the other.
 use mathlib.Core.Path.{◌≡◌, refl, ap, sym, ◌∙◌, subst}
-use mathlib.Core.List.{List, [], ◌∷◌, ◌++◌, append_assoc, append-nil}
-use Prim.Native.Nat.{ℕ, ◌+◌, ◌-◌, ◌≤◌}
+use mathlib.Core.List.{List, [], ◌∷◌, ◌++◌, append_assoc}
+use Prim.Native.Nat.{ℕ, ◌+◌, ◌≤◌}
 use native.Mathlib.Omega.{arith}
 use native.Mathlib.Numerals.{add-one}
-use lib.ListN.{length, set, take, drop, length-append, length-drop, drop_of_length-le}
-use lib.Seq.{sets, sets-eq, take_all, drop-drop}
-use borrow.Rule.Slice.PartMut.{mid_of, put_mid}
+use lib.ListN.{length, set, take, drop, length-append}
+use lib.Seq.{sets, sets-eq, drop-drop}
+use borrow.Rule.Slice.PartMut.{put_mid}
 use Rattle.lists.proofs.Stores.{sets_append}
 use Rattle.text.specs.Text.{Puts}
 
--- a text copied to the start of what is left from k on, as bytes::copy leaves that part
-pub puts_copied : (text before part : List ℕ) (k n : ℕ) → n ≡ length text → k + length text ≤ length before
-    → part ≡ take (length text) text ++ drop (length text) (mid_of k (length before - k) before)
-    → Puts (length text) k text before (k + n) (put_mid k (length before - k) before part)
-puts_copied text before part k n all room copied =
-    let m = length before - k in
-    let j = length text in
-    let whole : mid_of k m before ≡ drop k before = take_all m (drop k before) (rw length-drop (omega arith)) in
-    let none : drop m (drop k before) ≡ [] = drop_of_length-le (drop k before) {i = m} (rw length-drop (omega arith)) in
-    let bytes : part ≡ text ++ drop (k + j) before = copied ∙ rw (whole, take_all j text (omega arith), drop-drop j k before) in
+-- a text copied over the bytes from k on
+pub puts_copied : (text before part : List ℕ) (k m : ℕ) → m ≡ length text → k + length text ≤ length before → part ≡ text
+    → Puts (length text) k text before (k + length text) (put_mid k m before part)
+puts_copied text before part k m all room copied =
     record {
-      next = omega arith;
+      next = refl;
       within = omega arith;
-      bytes = rw (bytes, none, append-nil) (sym (append_assoc (take k before) text (drop (k + j) before))) ∙ sym (sets-eq text before k room);
+      bytes = rw (copied, all, drop-drop (length text) k before) (sym (append_assoc (take k before) text (drop (k + length text) before)))
+          ∙ sym (sets-eq text before k room);
     }
 
 -- a text behind a text

@@ -28,8 +28,9 @@ fn put(src: &[u8], out: &mut [u8], k: usize) -> usize
     requires { k + length src.now ≤ length out.old }
     ensures { Puts (length src.now) k src.now out.old result out.new }
 {
-    let n = bytes::copy(src, &mut out[k..]);
-    k + n
+    let end = k + src.len();
+    out[k..end].copy_from_slice(src);
+    end
 }
 
 // A number's decimal digits at a place; the next place.
