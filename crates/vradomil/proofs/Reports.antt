@@ -65,4 +65,4 @@ not_invalid (negsuc n) h = cases (eqb n 21) (λ e. absurd (h (ap (λ k. of_z w32
 
 -- a number that an entry point answered is handed on as it was
 pub handed_on : (z : ℤ) → mag z < 2 ^ 31 → to_z w32 (of_z w32 z) ≡ z
-handed_on z fits = to_z-of_z {z = z} (record { sfits = fits })
+handed_on z fits = to_z-of_z {w = w32} {z = z} (record { sfits = fits })

@@ -12,28 +12,23 @@ use Rattle.layout.proofs.Exact.{words_exact}
 use Rattle.vradomil.proofs.Memory.{word_written}
 use Rattle.commands.proofs.Places.{word_below, word_there}
 use Rattle.vradomil.proofs.call.put_word.Goals as goal
-use Rattle.vradomil.proofs.call.put_word.Goals.{After-slice_known-1}
+use Rattle.vradomil.proofs.call.put_word.Goals.{After-word_index-i}
 
-low : (c : After-slice_known-1) → Bytes c.args.words.now
-low c = λ (j : ℕ). omega (arith, c.slice_known-1.given j)
+low : (c : After-word_index-i) → Bytes c.args.words.now
+low c = λ j. omega (arith, c.type_inv.words j)
 
 pub returns-then-not-d : goal.returns-then-not-d
 returns-then-not-d c =
     λ s.
-    let g = c in
-    let keeps : g.args.d.writes ≡ false = not-true g.args.d.writes c.if-not-d.true in
-    rw keeps (words_exact memory_words g.args.words.now g.requires.1.0 (low c.before.before))
+    rw (not-true c.args.d.writes c.if-not-d.true) (words_exact memory_words c.args.words.now c.requires.1.0 (λ j. omega (arith, c.type_inv.words j)))
 
 pub returns : goal.returns
 unfolding write_word
 returns c =
     λ s.
-    let p = c in
-    let i = p in
-    let e = i in
-    let g = e in
-    let m = g.args.words.now in
-    let writes : g.args.d.writes ≡ true = not-false g.args.d.writes e.if-not-d.false in
-    let at = word_there _ _ i.word_index-i.ensures g.requires.0 (g.requires.1.1 writes) in
-    rw writes (p.put_u32.ensures ∙ word_written memory_words m i.word_index-i.result g.args.d.word g.requires.1.0 (low e.before.before) (word_below _ _ i.word_index-i.ensures)
-    ∙ ap (λ j. words_bytes (set (words_at m) j g.args.d.word)) at)
+    let m = c.args.words.now in
+    let writes : c.args.d.writes ≡ true = not-false c.args.d.writes c.if-not-d.false in
+    let at = word_there _ _ c.word_index-i.ensures c.requires.0 (c.requires.1.1 writes) in
+    let low = low (goal.at.returns c).After-word_index-i in
+    rw writes (c.put_u32.ensures ∙ word_written memory_words m c.word_index-i.result c.args.d.word c.requires.1.0 low (word_below _ _ c.word_index-i.ensures)
+    ∙ ap (λ j. words_bytes (set (words_at m) j c.args.d.word)) at)

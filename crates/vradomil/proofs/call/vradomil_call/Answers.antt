@@ -18,10 +18,7 @@ use Rattle.vradomil.specs.Host.{seen, CallFits, Passed}
 use Rattle.vradomil.proofs.Steps.{read_back, event_refused, event_passed, calls_refused, calls_passed}
 use borrow.Author.Rules.{rules}
 use Rattle.vradomil.proofs.call.vradomil_call.Goals as goal
-use Rattle.vradomil.proofs.call.vradomil_call.Goals.{After-judge-v, After-judge_buffers-lent, In-Pass, In-Pass-v, Start}
-
-abbrev start : After-judge_buffers-lent → Start
-start c = c.before.before.before.before.before
+use Rattle.vradomil.proofs.call.vradomil_call.Goals.{After-judge-v, Start}
 
 abbrev call : Start → Call
 call g =
@@ -31,79 +28,55 @@ call g =
 fits : (g : Start) → CallFits (call g)
 fits g = search rules
 
--- what buffers that pass have shown
-lent : (c : In-Pass) → c.judge_buffers-lent.result.verdict ≡ Pass
-lent c = c.enum_told-1.given.1
-
-held : (c : In-Pass) → Held (start c.before.before).args.tables.now
-held c = c.judge_buffers-lent.ensures.held (lent c)
-
-long : (c : In-Pass) → length (start c.before.before).args.words.now ≡ memory_size
-long c = c.judge_buffers-lent.ensures.long (lent c)
+abbrev start : After-judge-v → Start
+start c = c.before.before.before.before.before
 
 -- the verdict on the call
-judged : (c : After-judge-v)
-    → let j = c.before.before.before.before.before in
-    let g = start j in
-    first (refusals (CallEvent (call g)) (seen g.args.tables.now g.args.words.now)) ≡ c.judge-v.result
+judged : (c : After-judge-v) → first (refusals (CallEvent (call (start c))) (seen c.args.tables.now c.args.words.now)) ≡ c.judge-v.result
 judged c =
-    let e = c.before.before.before in
-    let j = e.before.before in
-    let g = start j in
-    let b = g.args.tables.now in
-    let m = g.args.words.now in
-    event_passed (CallEvent (call g)) b m j.judge_buffers-lent.result j.judge_buffers-lent.ensures refl (lent e)
-    ∙ ap (λ (s : State). first (own_rows (CallEvent (call g)) (world s (words_at m)))) (held e).tables ∙ sym c.judge-v.ensures
+    let e = CallEvent (call (start c)) in
+    let b = c.args.tables.now in
+    let m = c.args.words.now in
+    event_passed e b m c.judge_buffers-lent.result c.judge_buffers-lent.ensures refl c.in-Pass.is
+    ∙ ap (λ (s : State). first (own_rows e (world s (words_at m)))) (c.judge_buffers-lent.ensures.held c.in-Pass.is).tables ∙ sym c.judge-v.ensures
 
 -- a call that is not refused
-passed : (c : In-Pass-v)
-    → let j = c.before.before.before.before.before.before.before in
-    let g = start j in
-    Passed (call g) g.args.tables.now g.args.words.now j.judge_buffers-lent.result.place
-passed c =
-    let v = c.before.before in
-    let e = v.before.before.before in
-    let j = e.before.before in
-    let g = start j in
-    let b = g.args.tables.now in
-    let m = g.args.words.now in
+passed : (c : After-judge-v) → c.judge-v.result ≡ Pass → Passed (call (start c)) c.args.tables.now c.args.words.now c.judge_buffers-lent.result.place
+passed c pass =
+    let x = call (start c) in
+    let b = c.args.tables.now in
+    let m = c.args.words.now in
+    let l = c.judge_buffers-lent.ensures in
+    let held : Held b = l.held c.in-Pass.is in
     record {
-      held = held e;
-      long = long e;
-      granted = granted (call g) (state_at b) (words_at m) (pass_clear (refusals (CallEvent (call g)) (world (state_at b) (words_at m)))
-          (ap (λ (s : State). first (refusals (CallEvent (call g)) (world s (words_at m)))) (sym (held e).tables) ∙ judged v ∙ c.enum_told-in-Pass-v-1.given.1));
-      places = j.judge_buffers-lent.ensures.places (lent e);
+      held = held;
+      long = l.long c.in-Pass.is;
+      granted = granted x (state_at b) (words_at m) (pass_clear (refusals (CallEvent x) (world (state_at b) (words_at m)))
+          (ap (λ (s : State). first (refusals (CallEvent x) (world s (words_at m)))) (sym held.tables) ∙ judged c ∙ pass));
+      places = l.places c.in-Pass.is;
     }
 
 pub judge-v-requires : goal.judge-v-requires
-judge-v-requires c = let e = c.before.before in (held e, long e)
+judge-v-requires c = let l = c.judge_buffers-lent.ensures in (l.held c.in-Pass.is, l.long c.in-Pass.is)
 
 pub perform-n-requires : goal.perform-n-requires
-perform-n-requires c = passed c.before.before.before
+perform-n-requires c = passed (goal.at.perform-n-requires c).After-judge-v c.in-Pass-v.is
 
 pub returns-in-Refuse : goal.returns-in-Refuse
 returns-in-Refuse c =
-    let v = c.before.before in
-    let j = v.before.before in
-    let g = start j in
+    let g = (goal.at.returns-in-Refuse c).Start in
     calls_refused (call g) g.args.tables.now g.args.words.now _ (fits g) _
-    (event_refused (CallEvent (call g)) g.args.tables.now g.args.words.now j.judge_buffers-lent.result j.judge_buffers-lent.ensures refl _ v.in-Refuse.is) (read_back c.refusal.ensures)
+    (event_refused (CallEvent (call g)) g.args.tables.now g.args.words.now c.judge_buffers-lent.result c.judge_buffers-lent.ensures refl _ c.in-Refuse.is) (read_back c.refusal.ensures)
 
 pub returns-in-Refuse-v : goal.returns-in-Refuse-v
 returns-in-Refuse-v c =
-    let v = c.before.before in
-    let k = v.before.before in
-    let j = k.before.before.before.before.before in
-    let g = start j in
-    calls_refused (call g) g.args.tables.now g.args.words.now _ (fits g) _ (judged k ∙ v.in-Refuse.is) (read_back c.refusal-in-Refuse-v.ensures)
+    let k = (goal.at.returns-in-Refuse-v c).After-judge-v in
+    let g = start k in
+    calls_refused (call g) g.args.tables.now g.args.words.now _ (fits g) _ (judged k ∙ c.in-Refuse-v.is) (read_back c.refusal-in-Refuse-v.ensures)
 
 pub returns-in-Pass-v : goal.returns-in-Pass-v
 returns-in-Pass-v c =
-    let f = c.before.before.before.before in
-    let t = f.before.before.before.before in
-    let k = t.before.before in
-    let e = k.before.before.before in
-    let j = e.before.before in
-    let g = start j in
-    calls_passed (call g) g.args.tables.now g.args.words.now _ (fits g) f.perform-n.result _ _ (held e) (judged k ∙ t.in-Pass.is)
-    (to_z_pos w32 {n = f.perform-n.result} (omega (arith, f.perform-n.ensures.0.small))) f.perform-n.ensures.0 f.perform-n.ensures.1
+    let k = (goal.at.returns-in-Pass-v c).After-judge-v in
+    let g = start k in
+    calls_passed (call g) g.args.tables.now g.args.words.now _ (fits g) c.perform-n.result _ _ (c.judge_buffers-lent.ensures.held c.in-Pass.is) (judged k ∙ c.in-Pass-v.is)
+    (to_z_pos w32 {n = c.perform-n.result} (omega (arith, c.perform-n.ensures.0.small))) c.perform-n.ensures.0 c.perform-n.ensures.1
