@@ -1,0 +1,12 @@
+use mathlib.Core.Path.{sym, ap, ◌∙◌}
+use Rattle.rules.specs.Answers.{Outcome}
+use Rattle.layout.specs.Layout.{words_bytes}
+use Rattle.vradomil.proofs.Steps.{leaves_by}
+use Rattle.vradomil.proofs.call.perform.Goals as goal
+
+pub returns : goal.returns
+returns c =
+    let o = c in
+    let p = o in
+    let is = p.plan_at-d.ensures.effect in
+    (leaves_by _ _ _ _ (sym is) o.carry_out.ensures.0, o.carry_out.ensures.1 ∙ ap (λ (x : Outcome). words_bytes x.world.words) (sym is))
