@@ -1,6 +1,6 @@
 // Scripts: commands of a letter and a body, numbers little-endian.
 ghost use Rattle.std.specs.Prelude.{◌+◌, ◌≤◌, ◌≡◌, length, IfOk};
-ghost use Rattle.io.specs.Counts.{IsPrefixLen};
+ghost use Rattle.std.specs.Io.{ReadsAtMost};
 
 use crate::least;
 use pieces::{Ending, HELD, ReaderState, start};
@@ -33,7 +33,7 @@ pub(crate) struct Unread {
 
 // Reads until the buffer is full or the input ends, and returns how many bytes came.
 fn read_full(source: &mut impl Read, buffer: &mut [u8]) -> std::io::Result<usize>
-    ensures { IfOk result (λ n. IsPrefixLen n buffer.new) }
+    ensures { ReadsAtMost result buffer.new }
 {
     let mut done: usize = 0;
     while done < buffer.len() {

@@ -1,8 +1,8 @@
 // Replay: reads a log from standard input, piece by piece, and prints what each event was answered. It stands on playback.
 #![tactic(auto)]
 
-ghost use Rattle.std.specs.Prelude.{◌<◌, length, IfOk};
-ghost use Rattle.io.specs.Counts.{IsPrefixLen};
+ghost use Rattle.std.specs.Prelude.{◌<◌, length};
+ghost use Rattle.std.specs.Io.{ReadsAtMost};
 ghost use Rattle.playback.specs.Playback.{Within};
 
 use layout::{TABLES_SIZE, WORD_SIZE};
@@ -22,7 +22,7 @@ const TEXT: usize = LINE_ROOM * (PIECE + 1);
 const PIECES: u64 = 18446744073709551615;
 
 fn next_piece(input: &mut impl Read, piece: &mut [u8]) -> io::Result<usize>
-    ensures { IfOk result (λ n. IsPrefixLen n piece.new) }
+    ensures { ReadsAtMost result piece.new }
 {
     input.read(piece)
 }
