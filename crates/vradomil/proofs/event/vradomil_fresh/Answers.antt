@@ -21,25 +21,17 @@ loop-i-init c = copied_start _ _ _ _ (omega arith) c.if-tables-ne-TABLES_SIZE.fa
 pub bounds-tables-i : goal.bounds-tables-i
 bounds-tables-i c = omega (arith, c.loop-i.invariant.long)
 
-pub overflow_add-i : goal.overflow_add-i
-overflow_add-i c = omega arith
-
-pub loop-i-smaller : goal.loop-i-smaller
-loop-i-smaller c = omega arith
-
 pub loop-i-preserved : goal.loop-i-preserved
 loop-i-preserved c =
-    let k = c in
-    copied_next (tables_bytes fresh) tables_size tables_size k.loop-i.tables k.loop-i.i _ 0 k.loop-i.invariant (omega arith) (omega (arith, fresh_size)) (c.fresh_byte.ensures ∙ fresh_byte k.loop-i.i (omega arith))
+    copied_next (tables_bytes fresh) tables_size tables_size c.loop-i.tables c.loop-i.i _ 0 c.loop-i.invariant (omega arith) (omega (arith, fresh_size)) (c.fresh_byte.ensures ∙ fresh_byte c.loop-i.i (omega arith))
 
 pub shape_of-tables : goal.shape_of-tables
 shape_of-tables c = c.loop-i.invariant.long ∙ sym c.if-tables-ne-TABLES_SIZE.false
 
 pub returns : goal.returns
 returns c =
-    let k = c in
-    let same = eq-eqb (length k.args.tables.now) tables_size k.if-tables-ne-TABLES_SIZE.false in
-    let laid = sym (take_all tables_size k.loop-i.tables (omega (arith, k.loop-i.invariant.long)))
-    ∙ copied_all (tables_bytes fresh) tables_size tables_size k.loop-i.tables k.loop-i.i k.loop-i.invariant (omega arith)
+    let same = eq-eqb (length c.args.tables.now) tables_size c.if-tables-ne-TABLES_SIZE.false in
+    let laid = sym (take_all tables_size c.loop-i.tables (omega (arith, c.loop-i.invariant.long)))
+    ∙ copied_all (tables_bytes fresh) tables_size tables_size c.loop-i.tables c.loop-i.i c.loop-i.invariant (omega arith)
     ∙ take_all tables_size (tables_bytes fresh) (omega (arith, fresh_size)) in
     record { number = rw same; bytes = rw same laid }

@@ -14,20 +14,8 @@ use Rattle.layout.proofs.Reading.{thread_read}
 use Rattle.vradomil.proofs.event.waiting_set.Invariants.{waits}
 use Rattle.vradomil.proofs.event.waiting_set.Goals as goal
 
-pub overflow_mul-base : goal.overflow_mul-base
-overflow_mul-base c = omega arith
-
-pub overflow_add-base : goal.overflow_add-base
-overflow_add-base c = omega arith
-
 pub loop-i-init : goal.loop-i-init
 loop-i-init c = bits_start _
-
-pub overflow_add-waiting : goal.overflow_add-waiting
-overflow_add-waiting c = omega arith
-
-pub bounds-tables-base : goal.bounds-tables-base
-bounds-tables-base c = omega arith
 
 pub overflow_add-bits : goal.overflow_add-bits
 overflow_add-bits c = omega (arith, bits_limit c.loop-i.invariant, c.only_if-b.ensures.1, c.loop-i.invariant.below)
@@ -35,22 +23,14 @@ overflow_add-bits c = omega (arith, bits_limit c.loop-i.invariant, c.only_if-b.e
 pub overflow_mul-one : goal.overflow_mul-one
 overflow_mul-one c = omega (arith, bits_limit c.loop-i.invariant)
 
-pub overflow_add-i : goal.overflow_add-i
-overflow_add-i c = omega arith
-
-pub loop-i-smaller : goal.loop-i-smaller
-loop-i-smaller c = omega arith
-
 pub loop-i-preserved : goal.loop-i-preserved
 loop-i-preserved c =
-    let k = c in
-    let g = k in
-    let b = g.args.tables.now in
-    let p = g.args.process in
-    let i = k.loop-i.i in
+    let b = c.args.tables.now in
+    let p = c.args.process in
+    let i = c.loop-i.i in
     let place : waiting_at + threads_per_process * p + i ≡ waiting_at + thread_number p i = omega arith in
     let read = ap (λ n. eqb (get_or b n 0) 1) place ∙ ap (λ (r : Thread). r.waiting) (sym (thread_read b (thread_number p i) (omega arith))) in
-    bits_next (waits (state_at b) p) k.loop-i.bits k.loop-i.one i c.only_if-b.result k.loop-i.invariant (omega arith) (c.only_if-b.ensures.0 ∙ ap (λ w. cond w k.loop-i.one 0) read) c.only_if-b.ensures.1
+    bits_next (waits (state_at b) p) c.loop-i.bits c.loop-i.one i c.only_if-b.result c.loop-i.invariant (omega arith) (c.only_if-b.ensures.0 ∙ ap (λ w. cond w c.loop-i.one 0) read) c.only_if-b.ensures.1
 
 pub overflow_cast-result : goal.overflow_cast-result
 overflow_cast-result c = omega (arith, bits_limit c.loop-i.invariant, c.loop-i.invariant.below)
@@ -58,6 +38,5 @@ overflow_cast-result c = omega (arith, bits_limit c.loop-i.invariant, c.loop-i.i
 pub returns : goal.returns
 unfolding waiting_in
 returns c =
-    let g = c in
     let i : c.loop-i.i ≡ threads_per_process = omega (arith, c.loop-i.invariant.within) in
-    c.loop-i.invariant.done ∙ ap (λ n. bits_below n (waits (state_at g.args.tables.now) g.args.process)) i
+    c.loop-i.invariant.done ∙ ap (λ n. bits_below n (waits (state_at c.args.tables.now) c.args.process)) i
