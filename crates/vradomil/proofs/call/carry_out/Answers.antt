@@ -1,7 +1,5 @@
 use mathlib.Core.Path.{refl, sym, ap, ◌∙◌}
-use Prim.Native.Nat.{ℕ}
 use native.Mathlib.Omega.{arith}
-use Rattle.lists.specs.LittleEndian.{Bytes}
 use Rattle.tables.specs.Sizes.{memory_words}
 use Rattle.tables.specs.Tables.{world, thread_number, fall_asleep, asleep_at}
 use Rattle.rules.specs.Answers.{Outcome}

@@ -2,7 +2,6 @@ use mathlib.Core.Path.{◌≡◌, refl, sym, ap, ◌∙◌}
 use native.Mathlib.Omega.{arith}
 use mir.Facts.{to_z_pos}
 use mir.Syntax.{w32}
-use lib.ListN.{length}
 use Rattle.tables.specs.declared.State.{State}
 use Rattle.rules.specs.declared.event.Call.{Call}
 use Rattle.rules.specs.declared.event.Event.TheVariants.{Call as CallEvent}
@@ -12,7 +11,7 @@ use Rattle.rules.specs.Events.{own_rows, refusals}
 use Rattle.tables.specs.Tables.{world}
 use Rattle.rules.proofs.Rows.{pass_clear}
 use Rattle.kernel.proofs.Calls.{granted}
-use Rattle.layout.specs.Layout.{state_at, words_at, memory_size}
+use Rattle.layout.specs.Layout.{state_at, words_at}
 use Rattle.layout.specs.Check.{Held}
 use Rattle.vradomil.specs.Host.{seen, CallFits, Passed}
 use Rattle.vradomil.proofs.Steps.{read_back, event_refused, event_passed, calls_refused, calls_passed}
