@@ -21,7 +21,7 @@ pub wide : (z : ℤ) → mag z < 2 ^ hbits w32 → SFits w64 (to_z w32 (of_z w32
 wide z h = sfits_widen {w = w32} tt (sfits_to_z (Fits-of_z {z = z} (record { sfits = h })))
 
 pub back : (z : ℤ) → mag z < 2 ^ hbits w32 → to_z w64 (of_z w64 (to_z w32 (of_z w32 z))) ≡ z
-back z h = to_z-of_z (wide z h) ∙ to_z-of_z {z = z} (record { sfits = h })
+back z h = to_z-of_z {w = w64} (wide z h) ∙ to_z-of_z {w = w32} {z = z} (record { sfits = h })
 
 -- what each kind of entry point ensures
 pub by_call : {c : Call} {b m lent b1 m1 told : List ℕ} {r : ℤ} → Calls c b m lent r b1 m1 told → Hosted (CallEvent c) b m lent r b1 m1 told
