@@ -1,4 +1,4 @@
--- A short day of a display, and what a host in C hears of it, by the papers' numbers. proofs/Theorems.antt has its statement, `host-day`.
+-- A short day of a display, and what a host in C hears of it, by the papers' numbers. proofs/Theorems.antt has its statement, `host_day`.
 use Rattle.std.specs.Prelude.{List, [], ◌∷◌, ℕ, ℤ, pos, neg_ℤ}
 use Rattle.rules.specs.declared.event.Event.{Event}
 use Rattle.rules.specs.declared.event.Event.TheVariants.{Call, Store, Clock, Interrupt, Query, SetPriority}

@@ -179,7 +179,7 @@ reason_beside x n v = (refl, refl, refl, refl)
 pub before_numbers : (e : Event) (w : World) → (answer_numbers (step_without_reasons e w).answer ≡ numbers_of e w) × (reason_of (step_without_reasons e w).answer ≡ NoReason)
 before_numbers = Numbers'.before_numbers
 
--- Signed numbers: a word stands for what the library reads its bits as; and equality by its test, which `compares-signed` speaks of.
+-- Signed numbers: a word stands for what the library reads its bits as; and equality by its test, which `compares_signed` speaks of.
 pub signed_word : (x : ℕ) → x < word_limit → signed word_bits x ≡ to_z w32 x
 signed_word = Signed'.signed_word
 
@@ -213,7 +213,7 @@ pub undefined_parts : let sixteen : List ℕ = 0 ∷ 1 ∷ 2 ∷ 3 ∷ 4 ∷ 5 �
 unfolding undefined_op modulo
 undefined_parts = (refl, refl)
 
--- Of which events `as-before-signs` speaks: of all that are no WAKE_OP, and of a WAKE_OP with a power of two whatever its oparg.
+-- Of which events `as_before_signs` speaks: of all that are no WAKE_OP, and of a WAKE_OP with a power of two whatever its oparg.
 pub none_negative_else : (w : World)
     → ((e : Event) → ((c : Call) → e ≡ CallEvent c → ⊥) → none_negative e w ≡ true)
     × ((c : Call) → is_wake_op (command_of c.op) ≡ false → none_negative (CallEvent c) w ≡ true)
@@ -223,7 +223,7 @@ pub none_negative_power : (c : Call) (w : World) → is_wake_op (command_of c.op
     → none_negative (CallEvent c) w ≡ (not (negative arg_bits (cmp_arg_field c.val3)) && not (negative word_bits (old_word c w)))
 none_negative_power c w e h = rw (e, le-leb shift_bit (op_field c.val3) h)
 
--- The rules with -12, which `never-12` and `as-before-12` speak of: a row above that applies answers, then the row for -12, then the event does what it does;
+-- The rules with -12, which `never_12` and `as_before_12` speak of: a row above that applies answers, then the row for -12, then the event does what it does;
 pub row_of_12 : (x : Refusal) (rows : List Row) (applies : Bool) (o : Outcome) (w : World)
     → (FirstOf x rows → judged_with12 rows applies o w ≡ as_with12 (outcome (Refused x) w))
     × (Clear rows → judged_with12 rows true o w ≡ record { answer = minus12; world = w })
@@ -252,7 +252,7 @@ numbered_12 a = (refl, refl)
 pub whole_with_12 : (o : Outcome) → as_with12 o ≡ record { answer = other o.answer; world = o.world }
 whole_with_12 o = refl
 
--- The rules before request (vii), which `as-before-order` speaks of: they go by the edition that takes sleepers as they stand in the list;
+-- The rules before request (vii), which `as_before_order` speaks of: they go by the edition that takes sleepers as they stand in the list;
 pub by_arrival_lem : (e : Event) (w : World) → step_by_arrival e w ≡ back_to present (step e (under_arrival w))
 unfolding step_by_arrival
 by_arrival_lem e w = refl

@@ -1,5 +1,5 @@
 -- "Answers by number": the paper's tables with its own numbers, for every event, without the row for -12, which request (iii) takes out.
--- `answers-by-number` (proofs/Theorems.antt) says that the rules answer so.
+-- `answers_by_number` (proofs/Theorems.antt) says that the rules answer so.
 use Rattle.std.specs.Prelude.{Bool, not, cond, ◌&&◌, ◌||◌, List, [], ◌∷◌, ℕ, ◌+◌, length, ltb, ℤ, pos, neg_ℤ}
 use Rattle.std.specs.Int.Count.{ones, count_trailing_zeros}
 use Rattle.rules.specs.declared.event.Command.{Command}

@@ -1,5 +1,5 @@
 -- Cases of requests (vi) and (vii), each run from the fresh state over zero words, in a table each. proofs/Theorems.antt has their statements,
--- `priorities-of-cases` and `orders-of-cases`.
+-- `priorities_of_cases` and `orders_of_cases`.
 use Rattle.std.specs.Prelude.{cond, List, [], ◌∷◌, ◌++◌, map, ℕ, suc, replicate, ℤ, eqb}
 use Rattle.tables.specs.declared.Thread.{Thread}
 use Rattle.rules.specs.declared.event.Event.{Event}
