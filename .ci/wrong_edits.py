@@ -3,7 +3,9 @@
 An edit of src/ holds wrong programs, and one of specs/ may hold wrong definitions: each is a line `wrong: NAME`, a line `fn: PATH` (the
 function that does not meet its contract then) or, for a definition, `law: FILE.NAME` (the law of proofs/FILE.antt that is false then), a
 line that says what is wrong, and its replacements. An edit of specs/ with one replacement and no `wrong:` line goes by the name of its file."""
-import collections, glob, hashlib, os, re
+import collections, glob, hashlib, os
+
+from kit import read
 
 TRIED = '.ci/wrong-programs.tried'
 
@@ -20,11 +22,6 @@ def is_program(wrong):
 
 def is_definition(wrong):
     return all(r.file.startswith('specs/') for r in wrong.replacements)
-
-
-def read(path):
-    with open(path, encoding='utf-8') as file:
-        return file.read()
 
 
 def short_hash(text):
