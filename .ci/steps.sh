@@ -17,49 +17,45 @@ need() {
     [ "$missing" = 0 ] || exit 2
 }
 
-# Prints the crates that NAME stands on, and NAME.
-below() { # NAME
-    local todo=" $1" seen=' ' crate
-    while [ -n "${todo# }" ]; do
-        todo=${todo# }
-        crate=${todo%% *}
-        todo=${todo#"$crate"}
-        case $seen in *" $crate "*) continue ;; esac
-        [ -d "crates/$crate" ] || continue
-        seen="$seen$crate "
-        todo="$todo $(sed -n "s/^$crate: *//p" crates.txt)"
-    done
-    echo "$seen"
+# Proves a crate and those below it, over what earlier runs kept, and runs the program or builds the library: rt VERB in its folder, without input. FILE
+# gets all that rt says; it prints a line for each crate that is proved now, and where one is not, what the prover said first, and stops.
+prove() { # VERB CRATE FILE
+    local line crate=
+    mkdir -p "${3%/*}"
+    if ! (cd "crates/$2" && rt "$1" 2>&1 </dev/null) | tee "$3" | while IFS= read -r line; do
+        case $line in
+        'crate '*': modules loaded='*) crate=${line#crate } ;;
+        'logic=proved '*) echo "${0##*/}: ${crate%%:*} proved" >&2 ;;
+        esac
+    done; then
+        grep -m 8 -e ': error' -e 'no proof' -e 'not proved' "$3" | cut -c 1-600 >&2 || tail -n 8 "$3" >&2
+        echo "${0##*/}: not proved; all that rt said is in $3" >&2
+        exit 1
+    fi
 }
 
-# Reads what rt prints: appends all of it to FILE, and prints a short line for each crate, edit and program as it ends.
-# usage: rt .. 2>&1 | progress TOTAL FILE
+# Reads what rt ci prints: appends all of it to FILE, and prints a short line for each crate, edit and program as it ends.
+# usage: rt ci 2>&1 | progress TOTAL FILE
 progress() {
     local total=$1 file=$2 ended=0 line text
     mkdir -p "${file%/*}"
     while IFS= read -r line || [ -n "$line" ]; do
-        # rt ci removes target/ before its first line
-        [ -d "${file%/*}" ] || mkdir -p "${file%/*}"
         printf '%s\n' "$line" >>"$file"
         text=${line#rt: }
         case $line in
-        'rt: FAILED:'*) continue ;;
+        'rt: FAILED:'* | 'rt: '*': its tests are proved') continue ;;
         'rt: must-fail '*': refused'*) text="${text%%: refused*} refused" ;;
-        'rt: '*' proved (unchanged'*)
-            ended=$((ended + 1))
+        'rt: must-fail '*) ;;
+        'rt: '*' is kept: '*) text="${text%% *} proved by an earlier run" ;;
+        'rt: '*' proved') ;;
+        'rt: '*' ran, and wrote '* | 'rt: '*' ran (built by '*)
+            echo "${text%%, and wrote*}"
             continue
             ;;
-        'rt: '*' proved ('*)
-            text=${text%% *}
-            # a program counts once it has run
-            if [ -f "crates/$text/src/main.rt" ]; then text="$text proved, to be run"; else text="$text proved"; fi
-            ;;
-        'rt: '*' ran'*) text="${text%% *} ran" ;;
-        'rt: '*' NOT PROVED'* | 'rt: '*' NOT REFUSED'* | 'rt: '*' BAD EDIT'* | 'rt: '*'its run FAILED'*) ;;
+        'rt: '*' NOT PROVED'*) ;;
         *) continue ;;
         esac
-        case $text in *'to be run') ;; *) ended=$((ended + 1)) ;; esac
-        [[ $line =~ ([0-9]+)\ s\)$ && $text != *\ s\) ]] && text="$text, ${BASH_REMATCH[1]} s"
+        ended=$((ended + 1))
         printf '[%d/%d] %s\n' "$ended" "$total" "$text"
     done
 }

@@ -40,7 +40,7 @@ extern "C" {
 /* The highest base priority, which is taken first. Every thread starts with 0. */
 #define VRADOMIL_MAX_PRIORITY 31
 
-/* The answer of a call that put its thread to sleep. No count is ever as high (theorem count-below-asleep). */
+/* The answer of a call that put its thread to sleep. No count is ever as high (theorem count_below_asleep). */
 #define VRADOMIL_ASLEEP 2147483647
 
 /* The highest cap of a wake or requeue; it stands for "all". */
