@@ -132,7 +132,8 @@ fn tell(
     text: usize,
 ) -> std::io::Result<Told>
     requires { (part.from ≤ part.to) × (part.to ≤ length log.now) × (110 ≤ length out.old) × (text ≤ length out.old) }
-    ensures { IfOk result (λ t. t.text ≤ length out.old) }
+    ensures ok { IfOk result (λ t. t.text ≤ length out.old) }
+    ensures same_length { length out.new ≡ length out.old }
 {
     let from = part.from;
     let to = part.to;
@@ -154,7 +155,8 @@ fn obey(
     out: &mut [u8],
 ) -> std::io::Result<Run>
     requires { (34 ≤ length input.old) × (110 ≤ length out.old) × (r.at ≤ r.end) × (r.end ≤ length input.old) × (r.log ≤ length log.old) × (r.text ≤ length out.old) }
-    ensures { IfOk result (λ s. (s.at ≤ s.end) × (s.end ≤ length input.old) × (s.log ≤ length log.old) × (s.text ≤ length out.old)) }
+    ensures ok { IfOk result (λ s. (s.at ≤ s.end) × (s.end ≤ length input.old) × (s.log ≤ length log.old) × (s.text ≤ length out.old)) }
+    ensures same_length { (length input.new ≡ length input.old) × (length log.new ≡ length log.old) × (length out.new ≡ length out.old) }
 {
     let p = script::filled(source, input, r.at, r.end)?;
     let c = script::next_command(input, p.at, p.end);

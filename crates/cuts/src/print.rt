@@ -133,7 +133,8 @@ pub(crate) fn line(
     k: usize,
 ) -> std::io::Result<usize>
     requires { (110 ≤ length out.old) × (k ≤ length out.old) }
-    ensures { IfOk result (λ j. j ≤ length out.old) }
+    ensures ok { IfOk result (λ j. j ≤ length out.old) }
+    ensures same_length { length out.new ≡ length out.old }
 {
     if (kind == script::PIECE) | (kind == script::OVER) {
         let j = room(rt, out, k)?;

@@ -33,7 +33,8 @@ pub(crate) struct Unread {
 
 // Reads until the buffer is full or the input ends, and returns how many bytes came.
 fn read_full(source: &mut impl Read, buffer: &mut [u8]) -> std::io::Result<usize>
-    ensures { ReadsAtMost result buffer.new }
+    ensures ok { ReadsAtMost result buffer.new }
+    ensures same_length { length buffer.new ≡ length buffer.old }
 {
     let mut done: usize = 0;
     while done < buffer.len() {
@@ -55,7 +56,8 @@ pub(crate) fn filled(
     end: usize,
 ) -> std::io::Result<Unread>
     requires { (34 ≤ length input.old) × (at ≤ end) × (end ≤ length input.old) }
-    ensures { IfOk result (λ u. (u.at ≤ u.end) × (u.end ≤ length input.old) × (u.at + 34 ≤ length input.old)) }
+    ensures ok { IfOk result (λ u. (u.at ≤ u.end) × (u.end ≤ length input.old) × (u.at + 34 ≤ length input.old)) }
+    ensures same_length { length input.new ≡ length input.old }
 {
     if LONGEST <= end - at {
         return Ok(Unread { at: at, end: end });
@@ -246,7 +248,8 @@ fn load(
     log: &mut [u8],
 ) -> std::io::Result<Loaded>
     requires { (at ≤ end) × (end ≤ length input.now) × (n ≤ length log.old) }
-    ensures { IfOk result (λ l. (l.log ≤ length log.old) × (l.at ≤ end)) }
+    ensures ok { IfOk result (λ l. (l.log ≤ length log.old) × (l.at ≤ end)) }
+    ensures same_length { length log.new ≡ length log.old }
 {
     let here = least(n, end - at);
     log[..here].copy_from_slice(&input[at..at + here]);
@@ -269,7 +272,8 @@ pub(crate) fn log_after(
     n: usize,
 ) -> std::io::Result<Loaded>
     requires { (c.body + 33 ≤ length input.now) × (c.next ≤ end) × (end ≤ length input.now) × (n ≤ length log.old) }
-    ensures { IfOk result (λ l. (l.log ≤ length log.old) × (l.at ≤ end)) }
+    ensures ok { IfOk result (λ l. (l.log ≤ length log.old) × (l.at ≤ end)) }
+    ensures same_length { length log.new ≡ length log.old }
 {
     if kind != LOG {
         return Ok(Loaded {

@@ -1,7 +1,7 @@
 // Replay: reads a log from standard input, piece by piece, and prints what each event was answered. It stands on playback.
 #![tactic(auto)]
 
-ghost use Rattle.std.specs.Prelude.{◌<◌, length};
+ghost use Rattle.std.specs.Prelude.{◌≡◌, ◌<◌, length};
 ghost use Rattle.std.specs.Io.{ReadsAtMost};
 ghost use Rattle.playback.specs.Playback.{Within};
 
@@ -22,7 +22,8 @@ const TEXT: usize = LINE_ROOM * (PIECE + 1);
 const PIECES: u64 = 18446744073709551615;
 
 fn next_piece(input: &mut impl Read, piece: &mut [u8]) -> io::Result<usize>
-    ensures { ReadsAtMost result piece.new }
+    ensures ok { ReadsAtMost result piece.new }
+    ensures same_length { length piece.new ≡ length piece.old }
 {
     input.read(piece)
 }
