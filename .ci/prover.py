@@ -23,8 +23,11 @@ def changed_texts(crate, replacements):
 
 
 def linked(one, other):
-    """The prover replaces a file of kept work, and changes none."""
-    return os.link(one, other) if one.endswith('.oantt') else shutil.copy2(one, other)
+    """A second name, where the disk allows it: the prover replaces a file of kept work, and changes none."""
+    try:
+        return os.link(one, other) if one.endswith('.oantt') else shutil.copy2(one, other)
+    except OSError:
+        return shutil.copy2(one, other)
 
 
 def key_of(crate, texts, only):
@@ -51,7 +54,8 @@ def said_of(crate, replacements, only=None):
             for part in ('src', 'specs', 'proofs'):
                 if os.path.isdir(f'crates/{crate}/{part}'):
                     shutil.copytree(f'crates/{crate}/{part}', f'{room}/{part}')
-            shutil.copytree(f'crates/{crate}/out/incremental', f'{room}/kept', symlinks=True, copy_function=linked)
+            if os.path.isdir(f'crates/{crate}/out/incremental'):
+                shutil.copytree(f'crates/{crate}/out/incremental', f'{room}/kept', symlinks=True, copy_function=linked)
             for path, text in texts.items():
                 with open(f'{room}/{path}', 'w', encoding='utf-8') as file:
                     file.write(text)
