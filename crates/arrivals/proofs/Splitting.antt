@@ -1,13 +1,13 @@
 -- A list that a loop parts in two: the entries that pass a test and the others, each stored so far.
-use mathlib.Core.Path.{◌≡◌, refl, sym, ap, subst, ◌∙◌}
+use mathlib.Core.Path.{◌≡◌, refl, sym, ap, ◌∙◌}
 use mathlib.Core.Bool.{Bool, true, false, not, cond}
 use mathlib.Core.List.{List, [], ◌∷◌, ◌++◌, append-nil}
 use Prim.Native.Nat.{ℕ, ◌+◌, ◌≤◌, ◌<◌}
 use native.Mathlib.Omega.{arith}
 use lib.ListN.{length, set, replicate}
-use Rattle.lists.specs.Lists.{filter, bit, pad_to}
+use Rattle.lists.specs.Lists.{filter, pad_to}
 use Rattle.lists.proofs.Filter.{filter_append, length_filter}
-use Rattle.lists.proofs.Loops.{length_snoc, pad_to_snoc, pad_to_filler}
+use Rattle.lists.proofs.Loops.{length_snoc, pad_to_snoc}
 use Rattle.arrivals.specs.Sizes.{threads, no_entry}
 use Rattle.arrivals.specs.Arrivals.{split_of}
 
@@ -22,23 +22,23 @@ part_start f = record { stored = refl; counted = refl }
 pub part_few : (f : ℕ → Bool) (l part : List ℕ) (n : ℕ) → Part f l part n → n ≤ length l
 part_few f l part n g = omega (arith, g.counted, length_filter f l)
 
--- one entry more: where it does not pass, the filler is stored, and changes nothing
-pub part_next : (f : ℕ → Bool) (l part : List ℕ) (n : ℕ) → Part f l part n → length l < threads → (x : ℕ) (hit : Bool) → hit ≡ f x
-    → Part f (l ++ (x ∷ [])) (set part n (cond hit x no_entry)) (n + bit hit)
-part_next f l part n g room x true passes =
-    let ps = filter f l in
-    let more : filter f (l ++ (x ∷ [])) ≡ ps ++ (x ∷ []) = filter_append f l (x ∷ []) ∙ ap (λ b. ps ++ cond b (x ∷ []) []) (sym passes) in
-    record {
-      stored = (λ j. set (g.stored j) (g.counted j) x) ∙ pad_to_snoc threads no_entry ps x (omega (arith, length_filter f l)) ∙ ap (pad_to threads no_entry) (sym more);
-      counted = omega (arith, g.counted, length_snoc ps x, ap length more);
-    }
-part_next f l part n g room x false fails =
-    let ps = filter f l in
-    let same : filter f (l ++ (x ∷ [])) ≡ ps = filter_append f l (x ∷ []) ∙ ap (λ b. ps ++ cond b (x ∷ []) []) (sym fails) ∙ append-nil ps in
-    record {
-      stored = (λ j. set (g.stored j) (g.counted j) no_entry) ∙ pad_to_filler threads no_entry ps (omega (arith, length_filter f l)) ∙ ap (pad_to threads no_entry) (sym same);
-      counted = omega (arith, g.counted, ap length same);
-    }
+-- one entry more, which is stored where it passes
+module _ (f : ℕ → Bool) (l part : List ℕ) (n : ℕ) (g : Part f l part n) (x : ℕ) where
+  abbrev ps : List ℕ
+  ps = filter f l
+
+  pub part_more : length l < threads → f x ≡ true → Part f (l ++ (x ∷ [])) (set part n x) (n + 1)
+  part_more room passes =
+      let more : filter f (l ++ (x ∷ [])) ≡ ps ++ (x ∷ []) = filter_append f l (x ∷ []) ∙ ap (λ b. ps ++ cond b (x ∷ []) []) passes in
+      record {
+        stored = (λ j. set (g.stored j) (g.counted j) x) ∙ pad_to_snoc threads no_entry ps x (omega (arith, length_filter f l)) ∙ ap (pad_to threads no_entry) (sym more);
+        counted = omega (arith, g.counted, length_snoc ps x, ap length more);
+      }
+
+  pub part_same : f x ≡ false → Part f (l ++ (x ∷ [])) part n
+  part_same fails =
+      let same : ps ≡ filter f (l ++ (x ∷ [])) = sym (filter_append f l (x ∷ []) ∙ ap (λ b. ps ++ cond b (x ∷ []) []) fails ∙ append-nil ps) in
+      record { stored = g.stored ∙ ap (pad_to threads no_entry) same; counted = g.counted ∙ ap length same }
 
 -- both parts
 pub record Splitting (f : ℕ → Bool) (l left taken : List ℕ) (w n : ℕ) : Type 0 where
@@ -48,19 +48,18 @@ pub record Splitting (f : ℕ → Bool) (l left taken : List ℕ) (w n : ℕ) : 
 pub splitting_start : (f : ℕ → Bool) → Splitting f [] (replicate threads no_entry) (replicate threads no_entry) 0 0
 splitting_start f = record { kept = part_start (λ t. not (f t)); out = part_start f }
 
-negated : (hit : Bool) (x z : ℕ) → cond (not hit) x z ≡ cond hit z x
-negated true x z = refl
-negated false x z = refl
+module _ (f : ℕ → Bool) (l left taken : List ℕ) (w n : ℕ) (g : Splitting f l left taken w n) (room : length l < threads) (x : ℕ) where
+  pub splitting_taken : f x ≡ true → Splitting f (l ++ (x ∷ [])) left (set taken n x) w (n + 1)
+  splitting_taken passes = record {
+    kept = part_same (λ t. not (f t)) l left w g.kept x (ap not passes);
+    out = part_more f l taken n g.out x room passes;
+  }
 
-pub splitting_next : (f : ℕ → Bool) (l left taken : List ℕ) (w n : ℕ) → Splitting f l left taken w n → length l < threads
-    → (x : ℕ) (hit : Bool) → hit ≡ f x
-    → Splitting f (l ++ (x ∷ [])) (set left w (cond hit no_entry x)) (set taken n (cond hit x no_entry)) (w + bit (not hit)) (n + bit hit)
-splitting_next f l left taken w n g room x hit is =
-    record {
-      kept = subst (λ v. Part (λ t. not (f t)) (l ++ (x ∷ [])) (set left w v) (w + bit (not hit))) (negated hit x no_entry)
-          (part_next (λ t. not (f t)) l left w g.kept room x (not hit) (ap not is));
-      out = part_next f l taken n g.out room x hit is;
-    }
+  pub splitting_left : f x ≡ false → Splitting f (l ++ (x ∷ [])) (set left w x) taken (w + 1) n
+  splitting_left fails = record {
+    kept = part_more (λ t. not (f t)) l left w g.kept x room (ap not fails);
+    out = part_same f l taken n g.out x fails;
+  }
 
 pub splitting_all : (f : ℕ → Bool) (l left taken : List ℕ) (w n : ℕ) → Splitting f l left taken w n
     → record { left = left; count = w; taken = taken; n = n } ≡ split_of f l

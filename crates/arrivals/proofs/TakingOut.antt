@@ -42,7 +42,7 @@ module _ (list : List ℕ) (count : ℕ) (place ts : List ℕ) (n : ℕ) (pre : 
       }
 
   -- one turn: the thread x, whose place is p
-  module _ (size : length ts ≡ threads) (left at : List ℕ) (i : ℕ) (g : TakingOut list count ts n left at i) (on : i < n) where
+  module _ (size : n ≤ length ts) (left at : List ℕ) (i : ℕ) (g : TakingOut list count ts n left at i) (on : i < n) where
     abbrev whole : List ℕ
     whole = take count list
 

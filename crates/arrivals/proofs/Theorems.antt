@@ -6,6 +6,8 @@ use Prim.Native.Nat.{ℕ, ◌-◌, ◌≤◌, ◌<◌}
 use native.Mathlib.Omega.{arith}
 use lib.ListN.{length, take, get_or, replicate, get_or-append}
 use lib.Dec.{ltb}
+use Rattle.std.specs.Prelude.{Option, Some, None, is_some}
+use Rattle.std.proofs.lemmas.Option.{MatchOption-at_some}
 use borrow.Author.Tests.{ltb-true}
 use Rattle.lists.specs.Lists.{filter, all, elem, distinct, pad_to}
 use Rattle.lists.proofs.Filter.{filter_alike}
@@ -41,23 +43,27 @@ module _ (f : ℕ → Bool) (l : List ℕ) where
       rw (taken, left)
 
 -- Where a list names threads alone, each of them stands at the place that is noted for it, and the others at none.
-module _ (l : List ℕ) (low : Bool) (place : List ℕ) (h : PlacedIn l low place) where
-  pub placed_low : low ≡ true → (t : ℕ) → elem t l ≡ true → t < threads
-  placed_low e t k = ltb-true t threads (elem_all (λ u. ltb u threads) l (sym h.named ∙ e) t k)
+module _ (l : List ℕ) (r : Option (List ℕ)) (h : PlacedIn l r) where
+  pub placed_other : r ≡ None → all (λ t. ltb t threads) l ≡ false
+  placed_other e = sym h.named ∙ ap is_some e
 
-  pub placed_other : low ≡ false → all (λ t. ltb t threads) l ≡ false
-  placed_other e = sym h.named ∙ e
+  module _ (place : List ℕ) (found : r ≡ Some place) where
+    pub placed_found : Places place l
+    placed_found = MatchOption-at_some _ (λ p. Places p l) place found h.places
 
-  pub placed_there : low ≡ true → (t : ℕ) → elem t l ≡ true → get_or l (get_or place t 0 - 1) 0 ≡ t
-  placed_there e t k = ap (λ p. get_or l (p - 1) 0) (h.places e t (placed_low e t k)) ∙ place_names t l k
+    pub placed_low : (t : ℕ) → elem t l ≡ true → t < threads
+    placed_low t k = ltb-true t threads (elem_all (λ u. ltb u threads) l (sym h.named ∙ ap is_some found) t k)
 
-  pub placed_within : low ≡ true → (t : ℕ) → elem t l ≡ true → (1 ≤ get_or place t 0) × (get_or place t 0 ≤ length l)
-  placed_within e t k =
-      let is = h.places e t (placed_low e t k) in
-      (omega (arith, is, place_first t l k), omega (arith, is, place_most t l))
+    pub placed_there : (t : ℕ) → elem t l ≡ true → get_or l (get_or place t 0 - 1) 0 ≡ t
+    placed_there t k = ap (λ p. get_or l (p - 1) 0) (placed_found t (placed_low t k)) ∙ place_names t l k
 
-  pub placed_nowhere : low ≡ true → (t : ℕ) → t < threads → elem t l ≡ false → get_or place t 0 ≡ 0
-  placed_nowhere e t b k = h.places e t b ∙ place_absent t l k
+    pub placed_within : (t : ℕ) → elem t l ≡ true → (1 ≤ get_or place t 0) × (get_or place t 0 ≤ length l)
+    placed_within t k =
+        let is = placed_found t (placed_low t k) in
+        (omega (arith, is, place_first t l k), omega (arith, is, place_most t l))
+
+    pub placed_nowhere : (t : ℕ) → t < threads → elem t l ≡ false → get_or place t 0 ≡ 0
+    placed_nowhere t b k = placed_found t b ∙ place_absent t l k
 
 -- What is asked of a list, and of threads that are to be taken out of it, is no more than this.
 module _ (l : List ℕ) (few : length l ≤ threads) (low : all (λ t. ltb t threads) l ≡ true) where

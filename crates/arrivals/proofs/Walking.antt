@@ -1,35 +1,32 @@
 -- The walks along the arrival list, turn by turn, however its entries are read: where each thread stands in it, and that the entries past the
 -- count name none.
-use mathlib.Core.Path.{◌≡◌, refl, sym, ap, ◌∙◌, subst}
+use mathlib.Core.Path.{◌≡◌, refl, sym, ap, ◌∙◌}
 use mathlib.Core.Bool.{Bool, true, cond, ◌&&◌, ◌||◌, and-true}
 use mathlib.Core.List.{List, [], ◌∷◌, ◌++◌}
 use Prim.Native.Nat.{ℕ, suc, ◌+◌, ◌-◌, ◌%◌, ◌≤◌, ◌<◌}
 use native.Mathlib.Omega.{arith}
-use lib.ListN.{length, take, drop, get_or, set, replicate, length-set, drop_of_length-le}
-use lib.Seq.{length-take-le}
+use lib.ListN.{length, drop, get_or, set, replicate, length-set, drop_of_length-le}
 use lib.Dec.{eqb, ltb}
 use borrow.Author.Tests.{ltb-true, ltb-false}
 use Rattle.lists.specs.Lists.{all}
 use Rattle.lists.proofs.Tests.{cases, and_left, and_right, eqb_refl}
 use Rattle.lists.proofs.Filter.{get_d_replicated}
-use Rattle.lists.proofs.Loops.{take_next, all_snoc, all_next, stored_at}
+use Rattle.lists.proofs.Loops.{all_snoc, all_next, stored_at}
 use Rattle.arrivals.specs.Sizes.{threads, no_entry}
-use Rattle.arrivals.specs.Arrivals.{place_of, Places, PlacedIn}
+use Rattle.arrivals.specs.Arrivals.{place_of, Places}
 use Rattle.arrivals.proofs.Places.{place_snoc}
 
-of_equal : {l m : List ℕ} {low : Bool} {place : List ℕ} → l ≡ m → PlacedIn l low place → PlacedIn m low place
-of_equal {low = low} {place = place} e h = subst (λ k. PlacedIn k low place) e h
-
--- A loop that notes where each thread stands has noted the first i entries; k counts the places from 1.
-pub record Placing (list : List ℕ) (count : ℕ) (low : Bool) (place : List ℕ) (k i : ℕ) : Type 0 where
-  pub within : i ≤ count
-  pub counted : k ≡ i
+-- A loop has noted whether the entries so far are threads alone, and then where each stands.
+pub record Noted (l : List ℕ) (low : Bool) (place : List ℕ) : Type 0 where
   pub size : length place ≡ threads
-  pub placed : PlacedIn (take i list) low place
+  pub named : low ≡ all (λ t. ltb t threads) l
+  pub places : low ≡ true → Places place l
+
+pub noted_start : Noted [] true (replicate threads 0)
+noted_start = record { size = refl; named = refl; places = λ e t h. get_d_replicated threads t 0 }
 
 -- one entry x more, at the index j
-module _ (l : List ℕ) (low : Bool) (place : List ℕ) (x j k : ℕ) (g : PlacedIn l low place) (size : length place ≡ threads) (is : j ≡ x % threads)
-    (counted : k ≡ length l) where
+module _ (l : List ℕ) (low : Bool) (place : List ℕ) (x j k : ℕ) (g : Noted l low place) (is : j ≡ x % threads) (counted : k ≡ length l) where
   entry_placed : (low && ltb x threads) ≡ true → Places (set place j (k + 1)) (l ++ (x ∷ []))
   entry_placed e t h =
       let below : x < threads = ltb-true x threads (and_right low (ltb x threads) e) in
@@ -38,34 +35,15 @@ module _ (l : List ℕ) (low : Bool) (place : List ℕ) (x j k : ℕ) (g : Place
       let last : k + 1 ≡ place_of x (l ++ (x ∷ [])) =
       omega (arith, place_snoc x l x ∙ ap (λ b. cond b (suc (length l)) (place_of x l)) (eqb_refl x)) in
       ap (λ n. get_or (set place n (k + 1)) t 0) at
-      ∙ stored_at place 0 (λ u. place_of u (l ++ (x ∷ []))) x (k + 1) (omega arith) last t
+      ∙ stored_at place 0 (λ u. place_of u (l ++ (x ∷ []))) x (k + 1) (omega (arith, g.size)) last t
       (λ d. old t h ∙ sym (place_snoc t l x ∙ ap (λ b. cond b (suc (length l)) (place_of t l)) d))
 
-  entry_in : PlacedIn (l ++ (x ∷ [])) (low && ltb x threads) (set place j (k + 1))
-  entry_in = record {
+  pub noted_next : Noted (l ++ (x ∷ [])) (low && ltb x threads) (set place j (k + 1))
+  noted_next = record {
+    size = length-set place j (k + 1) ∙ g.size;
     named = ap (◌&& ltb x threads) g.named ∙ sym (all_snoc (λ t. ltb t threads) l x);
     places = entry_placed;
   }
-
-module _ (list : List ℕ) (count : ℕ) where
-  pub placing_start : Placing list count true (replicate threads 0) 0 0
-  placing_start =
-      record { within = omega arith; counted = refl; size = refl; placed = record { named = refl; places = λ e t h. get_d_replicated threads t 0 } }
-
-  module _ (low : Bool) (place : List ℕ) (k i : ℕ) (g : Placing list count low place k i) where
-    pub placing_next : (x j : ℕ) → i < count → count ≤ length list → x ≡ get_or list i 0 → j ≡ x % threads
-        → Placing list count (low && ltb x threads) (set place j (k + 1)) (k + 1) (i + 1)
-    placing_next x j more fits here is =
-        record {
-          within = omega arith;
-          counted = ap (◌+ 1) g.counted;
-          size = length-set place j (k + 1) ∙ g.size;
-          placed = of_equal (ap (λ e. take i list ++ (e ∷ [])) here ∙ sym (take_next list i 0 (omega arith)))
-              (entry_in (take i list) low place x j k g.placed g.size is (g.counted ∙ sym (length-take-le i list (omega arith))));
-        }
-
-    pub placing_all : count ≤ i → PlacedIn (take count list) low place
-    placing_all end = let e : i ≡ count = omega (arith, g.within) in of_equal (ap (λ n. take n list) e) g.placed
 
 abbrev is_no_entry : ℕ → Bool
 is_no_entry e = eqb e no_entry

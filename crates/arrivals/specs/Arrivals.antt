@@ -1,5 +1,5 @@
 -- What the functions on the arrival list compute.
-use Rattle.std.specs.Prelude.{◌≡◌, Bool, true, false, not, cond, List, [], ◌∷◌, ℕ, suc, ◌-◌, ◌≤◌, ◌<◌, length, take, get_or, eqb, ltb}
+use Rattle.std.specs.Prelude.{◌≡◌, Bool, true, false, not, cond, List, [], ◌∷◌, ℕ, suc, ◌-◌, ◌≤◌, ◌<◌, length, take, get_or, eqb, ltb, Option, is_some, IfSome}
 use Rattle.lists.specs.Lists.{filter, all, elem, bit, distinct, pad_to}
 use Rattle.arrivals.specs.declared.Split.{Split}
 use Rattle.arrivals.specs.Sizes.{threads, no_entry}
@@ -26,10 +26,10 @@ place_of t (x ∷ l) = cond (elem t l) (suc (place_of t l)) (bit (eqb t x))
 abbrev pub Places : List ℕ → List ℕ → Type 0
 Places place l = (t : ℕ) → t < threads → get_or place t 0 ≡ place_of t l
 
--- whether a list names threads alone, and then where each stands
-pub record PlacedIn (l : List ℕ) (low : Bool) (place : List ℕ) : Type 0 where
-  pub named : low ≡ all (λ t. ltb t threads) l
-  pub places : low ≡ true → Places place l
+-- where each thread stands, if the list names threads alone, and else nothing
+pub record PlacedIn (l : List ℕ) (r : Option (List ℕ)) : Type 0 where
+  pub named : is_some r ≡ all (λ t. ltb t threads) l
+  pub places : IfSome r (λ place. Places place l)
 
 -- the places once the entry at one of them is taken out
 abbrev pub MovedUp : List ℕ → ℕ → List ℕ → Type 0

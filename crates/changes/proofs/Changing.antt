@@ -4,7 +4,7 @@ use mathlib.Core.List.{List}
 use Prim.Native.Nat.{ℕ, ◌+◌, ◌≤◌, ◌<◌}
 use native.Mathlib.Omega.{arith}
 use lib.ListN.{length, take, get_or, set, length-set}
-use lib.Seq.{get_or-set_same, set-set}
+use lib.Seq.{take_all, get_or-set_same, set-set}
 use Rattle.tables.specs.declared.State.{State}
 use Rattle.tables.specs.declared.Thread.{Thread}
 use Rattle.tables.specs.declared.Change.{Change}
@@ -12,7 +12,7 @@ use Rattle.tables.specs.Sizes.{threads}
 use Rattle.tables.specs.Tables.{fresh_thread, thread_of, change, with_threads}
 use Rattle.tables.specs.Steps.{changed_by}
 use Rattle.tables.proofs.Changes.{length_change, change_none, changed_next}
-use Rattle.layout.specs.Layout.{tables_size, tables_bytes}
+use Rattle.layout.specs.Layout.{tables_bytes}
 use Rattle.changes.specs.Change.{Whole, at_thread, on_list, Writes}
 
 pub whole_threads : (s : State) (rs : List Thread) → length rs ≡ threads → Whole s → Whole (with_threads rs s)
@@ -35,33 +35,21 @@ at_twice i f g s w low =
     let now_is : thread_of (at_thread i f s) i ≡ new = get_or-set_same s.threads i new fresh_thread (omega (arith, w.records)) in
     ap (λ rs. tables_bytes (with_threads rs s)) (ap (λ r. set (set s.threads i new) i (g r)) now_is ∙ set-set s.threads i new (g new))
 
--- the first i threads are changed
-pub record Changed (how : Change) (b₀ ts : List ℕ) (n : ℕ) (b : List ℕ) (i : ℕ) : Type 0 where
-  pub within : i ≤ n
-  pub long : length b ≡ tables_size
-  pub done : Writes (λ s. with_threads (change (changed_by how) (take i ts) s.threads) s) b₀ b
+-- A loop over the threads ts has changed the first i.
+module _ (how : Change) (ts : List ℕ) where
+  abbrev pub Changed : List ℕ → List ℕ → ℕ → Type 0
+  Changed b₀ b i = Writes (λ s. with_threads (change (changed_by how) (take i ts) s.threads) s) b₀ b
 
-module _ (how : Change) (ts : List ℕ) (n : ℕ) where
-  pub changed_start : (b : List ℕ) → length b ≡ tables_size → Changed how b ts n b 0
-  changed_start b long =
-      record {
-        within = omega arith;
-        long = long;
-        done = λ s w is. is ∙ ap (λ rs. tables_bytes (with_threads rs s)) (sym (change_none (changed_by how) s.threads));
-      }
+  pub changed_start : (b : List ℕ) → Changed b b 0
+  changed_start b = λ s w is. is ∙ ap (λ rs. tables_bytes (with_threads rs s)) (sym (change_none (changed_by how) s.threads))
 
-  pub changed_more : (b₀ b after : List ℕ) (i x : ℕ) → Changed how b₀ ts n b i → i < n → n ≤ length ts → x ≡ get_or ts i 0 → x < threads
-      → length after ≡ tables_size → Writes (λ s. with_threads (set s.threads x (changed_by how (thread_of s x))) s) b after
-      → Changed how b₀ ts n after (i + 1)
-  changed_more b₀ b after i x g more few is low long new =
-      record {
-        within = omega arith;
-        long = long;
-        done = λ s w same.
-            let rs = change (changed_by how) (take i ts) s.threads in
-            new (with_threads rs s) (whole_change (changed_by how) (take i ts) s w) (g.done s w same)
-            ∙ ap tables_bytes (changed_next how s (with_threads rs s) ts i x (changed_by how (thread_of (with_threads rs s) x)) (omega arith) (omega (arith, w.records)) refl is refl);
-      }
+  pub changed_more : (b₀ b after : List ℕ) (i x : ℕ) → Changed b₀ b i → i < length ts → x ≡ get_or ts i 0 → x < threads
+      → Writes (λ s. with_threads (set s.threads x (changed_by how (thread_of s x))) s) b after → Changed b₀ after (i + 1)
+  changed_more b₀ b after i x done more is low new =
+      λ s w same.
+      let rs = change (changed_by how) (take i ts) s.threads in
+      new (with_threads rs s) (whole_change (changed_by how) (take i ts) s w) (done s w same)
+      ∙ ap tables_bytes (changed_next how s (with_threads rs s) ts i x (changed_by how (thread_of (with_threads rs s) x)) more (omega (arith, w.records)) refl is refl)
 
-  pub changed_all : (b₀ b : List ℕ) (i : ℕ) → Changed how b₀ ts n b i → n ≤ i → Writes (λ s. with_threads (change (changed_by how) (take n ts) s.threads) s) b₀ b
-  changed_all b₀ b i g end s w is = let e : i ≡ n = omega (arith, g.within) in g.done s w is ∙ rw e
+  pub changed_all : (b₀ b : List ℕ) (i : ℕ) → Changed b₀ b i → length ts ≤ i → Writes (λ s. with_threads (change (changed_by how) ts s.threads) s) b₀ b
+  changed_all b₀ b i done end s w is = done s w is ∙ rw (take_all i ts end)

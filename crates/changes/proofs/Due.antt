@@ -1,26 +1,28 @@
 -- Whose deadline has come is read from the number that is stored: on tables that keep the rules a sleeper has none exactly where it is 0.
-use mathlib.Core.Path.{◌≡◌, sym, ap, ◌∙◌}
-use mathlib.Core.Bool.{Bool, true, false, not, ◌&&◌, ◌||◌}
-use mathlib.Core.List.{List, [], ◌∷◌, ◌++◌}
+use mathlib.Core.Path.{◌≡◌, refl, sym, ap, ◌∙◌}
+use mathlib.Core.Bool.{Bool, true, false, not, ◌&&◌}
+use mathlib.Core.List.{List}
 use Prim.Native.Nat.{ℕ, ◌+◌, ◌-◌, ◌*◌, ◌%◌, ◌<◌}
 use native.Mathlib.Omega.{arith}
-use lib.ListN.{take, drop, get_or}
-use lib.Seq.{get_or-take, drop-drop}
+use lib.ListN.{length, take, drop, get_or}
+use lib.Seq.{take-take, get_or-take, drop-drop}
 use lib.Dec.{eqb, ltb}
 use borrow.Author.Tests.{eqb-true, ltb-true}
 use Rattle.lists.specs.Lists.{all, elem}
-use Rattle.lists.specs.LittleEndian.{le}
-use Rattle.lists.proofs.Tests.{cases, and_right}
+use Rattle.lists.specs.LittleEndian.{le, number_at}
+use Rattle.lists.proofs.Tests.{cases, clash, and_right}
+use Rattle.lists.proofs.Filter.{all_at, at_all}
 use Rattle.lists.proofs.Occurs.{elem_get_d}
-use Rattle.lists.proofs.Loops.{all_snoc}
+use Rattle.std.specs.Bool.{MatchBool}
+use Rattle.std.specs.List.{AllWithin, HoldsAt}
 use Rattle.tables.specs.declared.State.{State}
 use Rattle.tables.specs.declared.Thread.{Thread}
 use Rattle.tables.specs.Sizes.{threads, bytes_per_process}
 use Rattle.tables.specs.Tables.{thread_of, arrivals, aligned}
-use Rattle.tables.proofs.Sound.{Sound, tables_sound, sleep_kept, listed_waiting, listed_below}
-use Rattle.layout.specs.Layout.{time_bytes, waiting_at, deadline_at, thread_at, state_at}
+use Rattle.tables.proofs.Sound.{Sound, tables_sound, few, sleep_kept, listed_waiting, listed_below}
+use Rattle.layout.specs.Layout.{time_bytes, count_at, list_at, waiting_at, deadline_at, thread_at, state_at}
 use Rattle.layout.specs.Check.{Held}
-use Rattle.layout.proofs.Reading.{thread_read}
+use Rattle.layout.proofs.Reading.{count_read, list_read, thread_read}
 use Rattle.changes.specs.Change.{has_come, is_due}
 
 module _ (s : State) (g : Sound s) where
@@ -59,10 +61,33 @@ due_read b₀ h b same time i e on is =
     ap (λ t. has_come time (thread_at b t).deadline) number ∙ ap (has_come time) (deadline_behind b b₀ same e)
     ∙ ap (λ (r : Thread). has_come time r.deadline) (sym (thread_read b₀ e low)) ∙ come_due s g time e here
 
--- one more of whom anybody passes
-pub any_more : (f : ℕ → Bool) (l : List ℕ) (x : ℕ) (any hit : Bool) → any ≡ not (all (λ t. not (f t)) l) → hit ≡ f x
-    → (any || hit) ≡ not (all (λ t. not (f t)) (l ++ (x ∷ [])))
-any_more f l x any hit before is =
-    (λ j. before j || is j) ∙ cases (all (λ t. not (f t)) l)
-    (λ a. cases (f x) (λ e. rw (all_snoc (λ t. not (f t)) l x, a, e)) (λ e. rw (all_snoc (λ t. not (f t)) l x, a, e)))
-    (λ a. rw (all_snoc (λ t. not (f t)) l x, a))
+-- the part of the bytes that lists the sleepers
+pub arrivals_read : (b : List ℕ) → Held b → (n : ℕ) → n ≡ number_at time_bytes count_at b → take n (drop list_at b) ≡ arrivals (state_at b)
+arrivals_read b h n read =
+    let count : n ≡ (state_at b).count = read ∙ count_read b in
+    sym (take-take n threads (drop list_at b) (omega (arith, count, few (state_at b) (tables_sound (state_at b) h.sound))))
+    ∙ (λ j. take (count j) (list_read b j))
+
+-- Whether a listed thread was found whose deadline has come.
+module _ (b : List ℕ) (h : Held b) (time : ℕ) where
+  abbrev s : State
+  s = state_at b
+
+  abbrev come : ℕ → Bool
+  come e = has_come time (thread_at b (e % threads)).deadline
+
+  abbrev awake : ℕ → Bool
+  awake t = not (is_due time s t)
+
+  each : (k : ℕ) → k < length (arrivals s) → come (get_or (arrivals s) k 0) ≡ is_due time s (get_or (arrivals s) k 0)
+  each k low =
+      let on : k < s.count = omega (arith, (tables_sound s h.sound).counted) in
+      due_read b h b refl time k (get_or (arrivals s) k 0) on (get_or-take s.count s.list k 0 on)
+
+  pub due_found : (found : Bool)
+      → MatchBool found ((k : ℕ) × (k < length (arrivals s)) × HoldsAt (λ e. come e ≡ true) (arrivals s) k) (AllWithin (λ e. come e ≡ false) (arrivals s) 0 (length (arrivals s)))
+      → found ≡ not (all awake (arrivals s))
+  due_found true (k, low, hit) = cases (all awake (arrivals s))
+      (λ e. clash (awake (get_or (arrivals s) k 0)) (at_all awake 0 (arrivals s) e k low) (ap not (sym (each k low) ∙ hit 0)))
+      (λ e. rw e)
+  due_found false none = rw (all_at awake 0 (arrivals s) (λ k low. ap not (sym (each k low) ∙ none k 0 (omega arith) low)))

@@ -24,7 +24,7 @@ use Rattle.tables.proofs.Changes.{length_change, change_next, change_one, arriva
 use Rattle.tables.proofs.Sound.{Sound, tables_sound, listed_below}
 use Rattle.tables.proofs.Kept.{ending}
 use Rattle.tables.proofs.Stored.{end_nobody, move_nobody}
-use Rattle.layout.specs.Layout.{time_bytes, count_at, tables_size, state_at, tables_bytes}
+use Rattle.layout.specs.Layout.{time_bytes, count_at, state_at, tables_bytes}
 use Rattle.layout.specs.Check.{Held}
 use Rattle.changes.specs.Change.{StandsAt, Lowered, Lined, MovesOne, Leave}
 use Rattle.changes.proofs.Standing.{count_in}
@@ -67,8 +67,6 @@ abbrev pub taken : State → List ℕ → ℕ → ℕ → ℕ → State
 taken s ts n a i = move_sleeps a (take (i - n) (drop n ts)) (end_sleeps Woken (take i (take n ts)) s)
 
 pub record OneByOne (s : State) (ts : List ℕ) (n m a : ℕ) (b at : List ℕ) (i : ℕ) : Type 0 where
-  pub within : i ≤ n + m
-  pub size : length b ≡ tables_size
   pub bytes : b ≡ tables_bytes (taken s ts n a i)
   pub lined : Lined (taken s ts n a i)
   pub coming : (k : ℕ) → i ≤ k → k < n + m → StandsAt (get_or at (get_or ts k 0 % threads_per_process) 0) (get_or ts k 0) (arrivals (taken s ts n a i))
@@ -145,27 +143,22 @@ module _ (b₀ : List ℕ) (h : Held b₀) (place ts : List ℕ) (n m a : ℕ) (
   one_start =
       let none : taken s ts n a 0 ≡ s = until 0 (omega arith) ∙ end_nobody Woken s sound in
       record {
-        within = omega arith;
-        size = h.size;
         bytes = h.bytes ∙ ap tables_bytes (sym none);
         lined = subst Lined (sym none) (lined_sound s sound);
         coming = λ k later less. subst (λ u. StandsAt (get_or place (get_or ts k 0 % threads_per_process) 0) (get_or ts k 0) (arrivals u)) (sym none) (stands k less);
       }
 
-  module _ (b at : List ℕ) (i : ℕ) (o : OneByOne s ts n m a b at i) (on : i < n + m) where
+  module _ (b at : List ℕ) (i x : ℕ) (o : OneByOne s ts n m a b at i) (on : i < n + m) (named : x ≡ get_or ts i 0) where
     abbrev v : State
     v = taken s ts n a i
-
-    abbrev x : ℕ
-    x = get_or ts i 0
 
     abbrev out : ℕ
     out = get_or at (x % threads_per_process) 0
 
     here : StandsAt out x (arrivals v)
-    here = o.coming i (omega arith) on
+    here = rw named (o.coming i (omega arith) on)
 
-    pub one_most : get_or at (get_or ts i 0 % threads_per_process) 0 ≤ threads
+    pub one_most : get_or at (x % threads_per_process) 0 ≤ threads
     one_most = omega (arith, stands_within v o.lined x out here, o.lined.few)
 
     -- those that are still to come, in a list in which they stand as in the one without the thread
@@ -173,7 +166,7 @@ module _ (b₀ : List ℕ) (h : Held b₀) (place ts : List ℕ) (n m a : ℕ) (
         → (k : ℕ) → i + 1 ≤ k → k < n + m → StandsAt (get_or at' (get_or ts k 0 % threads_per_process) 0) (get_or ts k 0) l
     still l at' kept low k later less =
         let t = get_or ts k 0 in
-        let apart = other i k (omega arith) less in
+        let apart : eqb t x ≡ false = rw named (other i k (omega arith) less) in
         kept _ t
         (stands_less out x (arrivals v) o.lined.apart here (get_or at (t % threads_per_process) 0) t (o.coming k (omega arith) less) apart _ (low (t % threads_per_process) (omega arith)))
         apart
@@ -189,52 +182,49 @@ module _ (b₀ : List ℕ) (h : Held b₀) (place ts : List ℕ) (n m a : ℕ) (
       back : state_at b ≡ end_sleeps Woken (take i ts) s
       back = ended_back b₀ h Woken (take i ts) b bytes_ended
 
-      pub one_stands : StandsAt (get_or at (get_or ts i 0 % threads_per_process) 0) (get_or ts i 0) (arrivals (state_at b))
+      pub one_stands : StandsAt (get_or at (x % threads_per_process) 0) x (arrivals (state_at b))
       one_stands = subst (λ u. StandsAt out x (arrivals u)) (until i (omega arith) ∙ sym back) here
 
-      pub one_ends : (b' at' : List ℕ) → length b' ≡ tables_size → b' ≡ tables_bytes (end_sleeps Woken (get_or ts i 0 ∷ []) (state_at b))
-          → Lowered at (get_or at (get_or ts i 0 % threads_per_process) 0) at' → OneByOne s ts n m a b' at' (i + 1)
-      one_ends b' at' size new low =
+      pub one_ends : (b' at' : List ℕ) → b' ≡ tables_bytes (end_sleeps Woken (x ∷ []) (state_at b)) → Lowered at (get_or at (x % threads_per_process) 0) at'
+          → OneByOne s ts n m a b' at' (i + 1)
+      one_ends b' at' new low =
           let u = end_sleeps Woken (take (i + 1) ts) s in
           let next : end_sleeps Woken (x ∷ []) (end_sleeps Woken (take i ts) s) ≡ u =
-          end_append present Woken (take i ts) (x ∷ []) s ∙ ap (λ us. end_sleeps Woken us s) (sym (take_next ts i 0 (omega (arith, g.few)))) in
+          end_append present Woken (take i ts) (x ∷ []) s
+          ∙ ap (λ us. end_sleeps Woken us s) (ap (λ t. take i ts ++ (t ∷ [])) named ∙ sym (take_next ts i 0 (omega (arith, g.few)))) in
           let is : u ≡ taken s ts n a (i + 1) = sym (until (i + 1) (omega arith)) in
           let list : without (x ∷ []) (arrivals v) ≡ arrivals u =
           ap (λ (w : State). without (x ∷ []) (arrivals w)) (until i (omega arith)) ∙ sym (arrivals_end present Woken (x ∷ []) (end_sleeps Woken (take i ts) s)) ∙ ap arrivals next in
           record {
-            within = omega arith;
-            size = size;
             bytes = new ∙ ap (λ w. tables_bytes (end_sleeps Woken (x ∷ []) w)) back ∙ ap tables_bytes (next ∙ is);
             lined = subst Lined is (lined_sound u (ending Woken (take (i + 1) ts) s sound));
             coming = still (arrivals (taken s ts n a (i + 1))) at' (λ q t d e. subst (StandsAt q t) (list ∙ ap arrivals is) d) low;
           }
 
     -- it moves
-    pub one_may_move : (length b ≡ tables_size) × ((get_or ts i 0 < threads) × ((1 ≤ get_or at (get_or ts i 0 % threads_per_process) 0)
-        × ((get_or at (get_or ts i 0 % threads_per_process) 0 ≤ number_at time_bytes count_at b) × (number_at time_bytes count_at b ≤ threads))))
+    pub one_may_move : (x < threads) × ((1 ≤ get_or at (x % threads_per_process) 0)
+        × ((get_or at (x % threads_per_process) 0 ≤ number_at time_bytes count_at b) × (number_at time_bytes count_at b ≤ threads)))
     one_may_move =
         let count = count_in v (whole_lined v o.lined) o.lined.few b o.bytes in (
-          o.size,
-          (taken_low i on, (stands_first v o.lined x out here, (omega (arith, count, stands_within v o.lined x out here), omega (arith, count, o.lined.few)))),
+          rw named (taken_low i on),
+          (stands_first v o.lined x out here, (omega (arith, count, stands_within v o.lined x out here), omega (arith, count, o.lined.few))),
         )
 
     module _ (moves : n ≤ i) where
-      pub one_moves : (b' at' : List ℕ) → length b' ≡ tables_size → MovesOne a (get_or ts i 0) (get_or at (get_or ts i 0 % threads_per_process) 0) b b'
-          → Lowered at (get_or at (get_or ts i 0 % threads_per_process) 0) at' → OneByOne s ts n m a b' at' (i + 1)
-      one_moves b' at' size new low =
-          let is : move_sleeps a (x ∷ []) v ≡ taken s ts n a (i + 1) = sym (onwards i moves on) in
+      pub one_moves : (b' at' : List ℕ) → MovesOne a x (get_or at (x % threads_per_process) 0) b b' → Lowered at (get_or at (x % threads_per_process) 0) at'
+          → OneByOne s ts n m a b' at' (i + 1)
+      one_moves b' at' new low =
+          let is : move_sleeps a (x ∷ []) v ≡ taken s ts n a (i + 1) = ap (λ t. move_sleeps a (t ∷ []) v) named ∙ sym (onwards i moves on) in
           let list : without (x ∷ []) (arrivals v) ++ (x ∷ []) ≡ arrivals (taken s ts n a (i + 1)) = sym (arrivals_move present a (x ∷ []) v) ∙ ap arrivals is in
           record {
-            within = omega arith;
-            size = size;
             bytes = new v o.lined here o.bytes ∙ ap tables_bytes is;
             lined = subst Lined is (lined_moved v o.lined x out here a);
             coming = still (arrivals (taken s ts n a (i + 1))) at' (λ q t d e. subst (StandsAt q t) list (stands_before x (without (x ∷ []) (arrivals v)) q t d e)) low;
           }
 
-  pub one_all : (b at : List ℕ) (i : ℕ) → OneByOne s ts n m a b at i → n + m ≤ i
+  pub one_all : (b at : List ℕ) (i : ℕ) → OneByOne s ts n m a b at i → i ≡ n + m
       → b ≡ tables_bytes (move_sleeps a (take m (drop n ts)) (end_sleeps Woken (take n ts) s))
   one_all b at i o end =
-      let rest : i - n ≡ m = omega (arith, o.within) in
+      let rest : i - n ≡ m = omega arith in
       let size : length (take n ts) ≡ n = length-take-le n ts (omega (arith, g.few)) in
       o.bytes ∙ (λ j. tables_bytes (move_sleeps a (take (rest j) (drop n ts)) (end_sleeps Woken (take_all i (take n ts) (omega arith) j) s)))

@@ -26,15 +26,13 @@ pub length_closed : (l : List ℕ) (p z : ℕ) → 1 ≤ p → p ≤ length l �
 length_closed l p z first last =
     ap length (sym (append_assoc (take (p - 1) l) (drop p l) (z ∷ []))) ∙ length_snoc (out l p) z ∙ length_out l p first last
 
-pub record Shifting (b₀ : List ℕ) (at n p : ℕ) (b : List ℕ) (k i : ℕ) : Type 0 where
-  pub next : k ≡ i + 1
-  pub within : i ≤ n
+pub record Shifting (b₀ : List ℕ) (at n p : ℕ) (b : List ℕ) (i : ℕ) : Type 0 where
   pub storing : Storing b₀ (out (part b₀ at (n + 1)) p) at b i
   pub behind : drop (at + i) b ≡ drop (at + i) b₀
 
 module _ (b₀ : List ℕ) (at n p : ℕ) where
-  pub shifting_start : Shifting b₀ at n p b₀ 1 0
-  shifting_start = record { next = refl; within = omega arith; storing = storing_start b₀ (out (part b₀ at (n + 1)) p) at; behind = refl }
+  pub shifting_start : Shifting b₀ at n p b₀ 0
+  shifting_start = record { storing = storing_start b₀ (out (part b₀ at (n + 1)) p) at; behind = refl }
 
   module _ (first : 1 ≤ p) (last : p ≤ n) (fits : at + n < length b₀) where
     -- the list, and with the byte behind it
@@ -69,32 +67,30 @@ module _ (b₀ : List ℕ) (at n p : ℕ) where
     more_at j high = get_or-take (n + 1) (drop at b₀) j 0 (omega arith) ∙ get_or-drop at b₀ j 0
 
     -- what is read was not stored yet
-    read : (b : List ℕ) (k i : ℕ) → Shifting b₀ at n p b k i → (j q : ℕ) → i ≤ j → j ≤ n → q ≡ at + j → get_or b q 0 ≡ get_or more j 0
-    read b k i g j q low high place =
+    read : (b : List ℕ) (i : ℕ) → Shifting b₀ at n p b i → (j q : ℕ) → i ≤ j → j ≤ n → q ≡ at + j → get_or b q 0 ≡ get_or more j 0
+    read b i g j q low high place =
         let here : q ≡ at + i + (j - i) = omega arith in
         let there : at + i + (j - i) ≡ at + j = omega arith in
         rw (here, same_behind b b₀ (at + i) (j - i) g.behind, there) (sym (more_at j high))
 
-    pub shifting_next : (b : List ℕ) (k i v : ℕ) → Shifting b₀ at n p b k i → i < n
-        → v ≡ cond (ltb k p) (get_or b (at + i) 0) (get_or b (at + i + 1) 0) → Shifting b₀ at n p (set b (at + i) v) (k + 1) (i + 1)
-    shifting_next b k i v g on is =
-        let here = read b k i g i (at + i) (omega arith) (omega arith) refl in
-        let there = read b k i g (i + 1) (at + i + 1) (omega arith) (omega arith) (omega arith) in
+    pub shifting_next : (b : List ℕ) (i v : ℕ) → Shifting b₀ at n p b i → i < n
+        → v ≡ cond (ltb (i + 1) p) (get_or b (at + i) 0) (get_or b (at + i + 1) 0) → Shifting b₀ at n p (set b (at + i) v) (i + 1)
+    shifting_next b i v g on is =
+        let here = read b i g i (at + i) (omega arith) (omega arith) refl in
+        let there = read b i g (i + 1) (at + i + 1) (omega arith) (omega arith) (omega arith) in
         let one : at + (i + 1) ≡ at + i + 1 = omega arith in
         let new : v ≡ get_or (out more p) i 0 =
-        is ∙ (λ j. cond (ltb (g.next j) p) (here j) (there j)) ∙ sym (get_d_out more p first (omega (arith, size_more)) 0 i) in
+        is ∙ (λ j. cond (ltb (i + 1) p) (here j) (there j)) ∙ sym (get_d_out more p first (omega (arith, size_more)) 0 i) in
         record {
-          next = ap (◌+ 1) g.next;
-          within = omega arith;
           storing = storing_next b₀ (out more p) at b i v 0 g.storing (omega (arith, stores)) new;
           behind = drop-set-lt (at + (i + 1)) b (at + i) v (omega arith) ∙ ap (λ x. drop x b) one ∙ sym (drop-drop 1 (at + i) b)
               ∙ ap (drop 1) g.behind ∙ drop-drop 1 (at + i) b₀ ∙ ap (λ x. drop x b₀) (sym one);
         }
 
     -- another byte laid over the last
-    pub shifting_all : (b : List ℕ) (k i : ℕ) → Shifting b₀ at n p b k i → n ≤ i → (q z : ℕ) → q + 1 ≡ at + n
+    pub shifting_all : (b : List ℕ) (i : ℕ) → Shifting b₀ at n p b i → n ≤ i → (q z : ℕ) → q + 1 ≡ at + n
         → set b q z ≡ sets b₀ at (take (p - 1) (take n (drop at b₀)) ++ (drop p (take n (drop at b₀)) ++ (z ∷ [])))
-    shifting_all b k i g end q z place =
+    shifting_all b i g end q z place =
         let l = out list p in
         let stored : b ≡ sets b₀ at (l ++ (past ∷ [])) =
         storing_all b₀ (out more p) at b i g.storing (omega (arith, stores)) ∙ ap (sets b₀ at) out_more in

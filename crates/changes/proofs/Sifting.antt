@@ -10,7 +10,7 @@ use lib.ListN.{length, take, drop, get_or, set, replicate, length-append, length
 use lib.Seq.{sets, length-take-le, append_snoc, set-append_left, set_at, get_or_at, get_or-take, get_or-drop, take-set-le, take-suc-set, drop-append_seam}
 use Rattle.lists.specs.Lists.{filter, all, bit, pad_to}
 use Rattle.lists.specs.LittleEndian.{bytes}
-use Rattle.lists.proofs.Tests.{cases, clash}
+use Rattle.lists.proofs.Tests.{cases, clash, bit_le}
 use Rattle.lists.proofs.Filter.{filter_append, filter_none, length_filter}
 use Rattle.lists.proofs.Occurs.{elem_part, elem_get_d}
 use Rattle.lists.proofs.Loops.{take_next, drop_next, length_snoc, pad_to_snoc, pad_to_filler}
@@ -25,7 +25,7 @@ use Rattle.tables.specs.Tables.{arrivals, change, with_threads, with_arrivals, e
 use Rattle.tables.specs.Steps.{Numbers, changed_by, split_of, end_flagged}
 use Rattle.tables.proofs.Sound.{Sound, tables_sound, listed_below, arrivals_fit, few}
 use Rattle.tables.proofs.Stored.{ends, end_nobody}
-use Rattle.layout.specs.Layout.{time_bytes, count_at, list_at, waiting_at, tables_size, tables_bytes}
+use Rattle.layout.specs.Layout.{time_bytes, count_at, list_at, waiting_at, tables_bytes}
 use Rattle.changes.specs.Change.{Whole, on_list, Writes, Sifted}
 use Rattle.changes.proofs.Standing.{whole, list_in, behind_list}
 use Rattle.changes.proofs.Changing.{whole_list}
@@ -94,35 +94,30 @@ module _ (f : ℕ → Bool) (s : State) where
   pub record Sifting (b who : List ℕ) (n w i : ℕ) : Type 0 where
     pub within : i ≤ s.count
     pub size : length who ≡ threads
+    pub found_few : n ≤ i
+    pub kept_few : w ≤ i
     pub passed : take n who ≡ found i
     pub counted : n ≡ length (found i)
     pub fewer : w ≡ length (kept i)
     pub bytes : b ≡ tables_bytes (on_list (λ l. left i) s)
-    pub long : length b ≡ tables_size
 
 module _ (f : ℕ → Bool) (s : State) (ok : tables_ok s ≡ true) where
   sound : Sound s
   sound = tables_sound s ok
 
-  pub sifting_start : (b who : List ℕ) → b ≡ tables_bytes s → length b ≡ tables_size → length who ≡ threads → Sifting f s b who 0 0 0
-  sifting_start b who is long size =
-      record { within = omega arith; size = size; passed = refl; counted = refl; fewer = refl; bytes = is; long = long }
+  pub sifting_start : (b who : List ℕ) → b ≡ tables_bytes s → length who ≡ threads → Sifting f s b who 0 0 0
+  sifting_start b who is size =
+      record { within = omega arith; size = size; found_few = omega arith; kept_few = omega arith; passed = refl; counted = refl; fewer = refl; bytes = is }
 
   module _ (b who : List ℕ) (n w i : ℕ) (g : Sifting f s b who n w i) where
     gone : length (take i s.list) ≡ i
     gone = length-take-le i s.list (omega (arith, g.within, few s sound, (whole s ok).entries))
 
-    pub sifting_few : (n ≤ i) × (w ≤ i)
-    sifting_few = (
-      omega (arith, gone, g.counted, length_filter f (take i s.list)),
-      omega (arith, gone, g.fewer, length_filter (λ t. not (f t)) (take i s.list)),
-    )
-
     left_size : length (left f s i) ≡ threads
     left_size = omega (
       arith,
       length-append (pad_to i no_entry (kept f s i)) (drop i s.list),
-      length_padded i no_entry (kept f s i) (omega (arith, g.fewer, sifting_few.1)),
+      length_padded i no_entry (kept f s i) (omega (arith, g.fewer, g.kept_few)),
       length-drop i s.list,
       g.within,
       few s sound,
@@ -147,7 +142,7 @@ module _ (f : ℕ → Bool) (s : State) (ok : tables_ok s ≡ true) where
           sym (get_or-take threads (drop list_at b) i 0 inside ∙ get_or-drop list_at b i 0)
           ∙ ap (λ l. get_or l i 0) (list_in (on_list (λ l. left f s i) s) left_whole b g.bytes)
           ∙ ap (λ l. get_or (pad_to i no_entry (kept f s i) ++ l) i 0) (drop_next s.list i 0 (omega (arith, inside, (whole s ok).entries)))
-          ∙ get_or_at (pad_to i no_entry (kept f s i)) (get_or s.list i 0) (drop (i + 1) s.list) 0 i (length_padded i no_entry (kept f s i) (omega (arith, g.fewer, sifting_few.1)))
+          ∙ get_or_at (pad_to i no_entry (kept f s i)) (get_or s.list i 0) (drop (i + 1) s.list) 0 i (length_padded i no_entry (kept f s i) (omega (arith, g.fewer, g.kept_few)))
 
       pub sifting_next : (x : ℕ) → x ≡ get_or s.list i 0 → (hit : Bool) → hit ≡ f x
           → Sifting f s (set (set b (list_at + i) no_entry) (list_at + w) (cond hit no_entry x)) (set who n x) (n + bit hit) (w + bit (not hit)) (i + 1)
@@ -164,16 +159,17 @@ module _ (f : ℕ → Bool) (s : State) (ok : tables_ok s ≡ true) where
           record {
             within = omega arith;
             size = length-set who n x ∙ g.size;
-            passed = passed_more who n x hit (omega (arith, inside, sifting_few.0, g.size)) ∙ ap (λ l. more hit l x) g.passed ∙ sym out;
+            found_few = omega (arith, g.found_few, bit_le hit);
+            kept_few = omega (arith, g.kept_few, bit_le (not hit));
+            passed = passed_more who n x hit (omega (arith, inside, g.found_few, g.size)) ∙ ap (λ l. more hit l x) g.passed ∙ sym out;
             counted = ap (◌+ bit hit) g.counted ∙ sym (ap length out ∙ length_more hit (found f s i) x);
             fewer = ap (◌+ bit (not hit)) g.fewer ∙ sym (ap length stays ∙ length_more (not hit) (kept f s i) x);
             bytes =
-                part_put once once_whole w (v ∷ []) (omega (arith, inside, sifting_few.1)) (set b (list_at + i) no_entry)
+                part_put once once_whole w (v ∷ []) (omega (arith, inside, g.kept_few)) (set b (list_at + i) no_entry)
                 (part_put here left_whole i (no_entry ∷ []) (omega (arith, inside)) b g.bytes)
                 ∙ ap (λ l. tables_bytes (on_list (λ y. l) s))
-                (sift_one (kept f s i) s.list i w no_entry x hit g.fewer sifting_few.1 (omega (arith, inside, (whole s ok).entries))
+                (sift_one (kept f s i) s.list i w no_entry x hit g.fewer g.kept_few (omega (arith, inside, (whole s ok).entries))
                 ∙ ap (λ l. pad_to (i + 1) no_entry l ++ drop (i + 1) s.list) (sym stays));
-            long = length-set (set b (list_at + i) no_entry) (list_at + w) v ∙ length-set b (list_at + i) no_entry ∙ g.long;
           }
 
     -- the fillers that the list had are behind those that were laid
@@ -187,7 +183,7 @@ module _ (f : ℕ → Bool) (s : State) (ok : tables_ok s ≡ true) where
         ∙ ap (λ k. replicate (threads - k) no_entry) (sym here) in
         let list : left f s i ≡ pad_to threads no_entry (kept f s s.count) =
         ap (pad_to i no_entry (kept f s i) ++◌) tail
-        ∙ padded_on i threads no_entry (kept f s i) (omega (arith, g.fewer, sifting_few.1)) (omega (arith, all, few s sound)) ∙ ap (pad_to threads no_entry) same in
+        ∙ padded_on i threads no_entry (kept f s i) (omega (arith, g.fewer, g.kept_few)) (omega (arith, all, few s sound)) ∙ ap (pad_to threads no_entry) same in
         record {
           passed = g.passed ∙ ap (found f s) all;
           counted = g.counted ∙ ap (λ k. length (found f s k)) all;
@@ -204,15 +200,14 @@ module _ (f : ℕ → Bool) (s : State) (ok : tables_ok s ≡ true) where
     abbrev stay : List ℕ
     stay = filter (λ t. not (f t)) (arrivals s)
 
-    pub sifted_numbers : Numbers who n
-    sifted_numbers =
-        let g = tables_sound s ok in
-        record {
-          few = omega (arith, h.counted, length_filter f (arrivals s), arrivals_fit s g);
-          below = λ k low.
-              let here : get_or who k 0 ≡ get_or out k 0 = sym (get_or-take n who k 0 low) ∙ ap (λ l. get_or l k 0) h.passed in
-              rw here (listed_below s g (get_or out k 0) (elem_part f (get_or out k 0) (arrivals s) (elem_get_d out k 0 (omega (arith, h.counted)))));
-        }
+    pub sifted_few : n ≤ threads
+    sifted_few = omega (arith, h.counted, length_filter f (arrivals s), arrivals_fit s (tables_sound s ok))
+
+    pub sifted_numbers : Numbers (take n who) (length (take n who))
+    sifted_numbers = rw h.passed (record {
+      few = omega (arith, sifted_few, h.counted);
+      below = λ k low. listed_below s (tables_sound s ok) (get_or out k 0) (elem_part f (get_or out k 0) (arrivals s) (elem_get_d out k 0 low));
+    })
 
     pub sifted_ends : (a : LastAnswer) (after : List ℕ) → Writes (λ u. with_threads (change (changed_by (End a)) (take n who) u.threads) u) b after
         → (n ≡ (end_flagged a f s).n) × (after ≡ tables_bytes (end_flagged a f s).state)
@@ -228,12 +223,12 @@ module _ (f : ℕ → Bool) (s : State) (ok : tables_ok s ≡ true) where
         )
 
   -- where nobody passes, nothing changes
-  pub nobody_ends : (a : LastAnswer) (b : List ℕ) → b ≡ tables_bytes s → (any : Bool) → any ≡ not (all (λ t. not (f t)) (arrivals s)) → not any ≡ true
+  pub nobody_ends : (a : LastAnswer) (b : List ℕ) → b ≡ tables_bytes s → (any : Bool) → any ≡ not (all (λ t. not (f t)) (arrivals s)) → any ≡ false
       → (0 ≡ (end_flagged a f s).n) × (b ≡ tables_bytes (end_flagged a f s).state)
   unfolding end_flagged
   nobody_ends a b is any told none =
       let fails : (x : Bool) → not x ≡ true → x ≡ false = λ x e. cases x (λ d. clash (not x) e (ap not d)) (λ d. d) in
-      let each = cases (all (λ t. not (f t)) (arrivals s)) (λ e. e) (λ e. clash any (told ∙ ap not e) (fails any none)) in
+      let each = cases (all (λ t. not (f t)) (arrivals s)) (λ e. e) (λ e. clash any (told ∙ ap not e) none) in
       let nobody = filter_none f (λ t. not (f t)) (λ t. fails (f t)) (arrivals s) each in (
         sym (ap length nobody),
         is ∙ ap tables_bytes (sym (ap (λ ts. end_sleeps a ts s) nobody ∙ end_nobody a s (tables_sound s ok))),

@@ -3,7 +3,7 @@
 
 ghost use Rattle.std.specs.Prelude.{◌≡◌, cond, ◌+◌, ◌-◌, min};
 ghost use Rattle.tables.specs.Sizes.{time_limit, match_any};
-ghost use Rattle.rules.specs.Commands.{numbered, command_of, not_implemented, uses};
+ghost use Rattle.rules.specs.Commands.{command_of, not_implemented, uses};
 ghost use Rattle.rules.specs.Calls.{second_cap, timeout_given};
 ghost use Rattle.commands.specs.Places.{thread_place, word_place};
 
@@ -14,65 +14,49 @@ const PRIVATE_BIT: u32 = 128;
 
 const CLOCK_BIT: u32 = 256;
 
-// Every number of 32 bits is below this, and MATCH_ANY is the last of them (FUTEX_BITSET_MATCH_ANY).
+// Every number of 32 bits is below this.
 const WORD_LIMIT: u64 = 1 << 32;
 
-const MATCH_ANY: u32 = (WORD_LIMIT - 1) as u32;
+// FUTEX_BITSET_MATCH_ANY.
+const MATCH_ANY: u32 = u32::MAX;
 
-const LAST_TIME: u64 = 18446744073709551615;
-
-fn numbered(n: u32) -> Command
-    ensures { result ≡ numbered n }
-{
-    match n {
-        0 => Command::Wait,
-        1 => Command::Wake,
-        3 => Command::Requeue,
-        4 => Command::CmpRequeue,
-        5 => Command::WakeOp,
-        9 => Command::WaitBitset,
-        10 => Command::WakeBitset,
-        _ => Command::Unknown,
-    }
-}
-
+#[tactic(auto, unfolding(rules::specs::Commands::command_of))]
 fn command_of(op: u32) -> Command
     ensures { result ≡ command_of op }
 {
     let private = op / PRIVATE_BIT % 2;
     let clock = op / CLOCK_BIT % 2;
-    numbered(op - PRIVATE_BIT * private - CLOCK_BIT * clock)
+    Command::from(op - PRIVATE_BIT * private - CLOCK_BIT * clock)
 }
 
 pub fn uses_by(op: u32) -> Uses
     ensures { result ≡ uses (command_of op) }
 {
-    let k = command_of(op);
-    uses(k)
+    uses(command_of(op))
 }
 
-// Every known command uses a cap or a deadline.
+#[tactic(auto, unfolding(rules::specs::Commands::not_implemented))]
 pub fn not_implemented(op: u32) -> bool
     ensures { result ≡ not_implemented op }
 {
-    let u = uses_by(op);
-    !(u.cap | u.deadline) | (op / CLOCK_BIT % 2 == 1)
+    matches!(command_of(op), Command::Unknown) | (op / CLOCK_BIT % 2 == 1)
 }
 
 fn row(cap: bool, second: bool, mask: bool, compare: bool, deadline: bool, moves: bool) -> Uses
     ensures { result ≡ record { cap = cap; second = second; mask = mask; compare = compare; deadline = deadline; moves = moves } }
 {
     Uses {
-        cap: cap,
-        second: second,
-        mask: mask,
-        compare: compare,
-        deadline: deadline,
-        moves: moves,
+        cap,
+        second,
+        mask,
+        compare,
+        deadline,
+        moves,
     }
 }
 
 // Which arguments the command uses: cap, second, mask, compare, deadline, moves.
+// Stays: a line for each command, as in the table of rules/specs/Commands.antt; with the names of the fields each takes up to six.
 fn uses(k: Command) -> Uses
     ensures { result ≡ uses k }
 {
@@ -100,25 +84,14 @@ pub fn timeout_given(c: Call) -> bool
     c.flag != 0
 }
 
-// The sum of two times, at most the last.
-fn later(now: u64, timeout: u64) -> u64
-    ensures { result ≡ min (now + timeout) (time_limit - 1) }
-{
-    if LAST_TIME - now < timeout {
-        LAST_TIME
-    } else {
-        now + timeout
-    }
-}
-
-// The deadline of a wait: absolute where it has a mask, else relative.
+// The deadline of a wait: absolute where it has a mask, else relative, and at most the last time.
 pub fn deadline_of(c: Call, absolute: bool, now: u64) -> u64
     ensures { result ≡ cond absolute c.timeout (min (now + c.timeout) (time_limit - 1)) }
 {
     if absolute {
         c.timeout
     } else {
-        later(now, c.timeout)
+        now.saturating_add(c.timeout)
     }
 }
 
@@ -133,14 +106,14 @@ pub fn mask_of(c: Call, given: bool) -> u32
 pub fn thread_index(process: u8, index: u8) -> usize
     ensures { result ≡ thread_place process index }
 {
-    (process as usize) % PROCESSES * State::THREADS_PER_PROCESS
-        + (index as usize) % State::THREADS_PER_PROCESS
+    usize::from(process) % PROCESSES * State::THREADS_PER_PROCESS
+        + usize::from(index) % State::THREADS_PER_PROCESS
 }
 
 // The place of a word; of an address that has none, that of another.
 pub fn word_index(process: u8, address: u32) -> usize
     ensures { result ≡ word_place process address }
 {
-    (process as usize) % PROCESSES * State::WORDS_PER_PROCESS
+    usize::from(process) % PROCESSES * State::WORDS_PER_PROCESS
         + ((address / WORD_BYTES) as usize) % State::WORDS_PER_PROCESS
 }

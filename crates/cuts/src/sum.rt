@@ -1,36 +1,53 @@
-// Sums of events: each number of a record is mixed in, in the order of the log.
+// Sums of events: each number of a record is mixed in, in the order of the log, its kind first.
 use rules::event::{Call, Event};
 
-fn mixed(h: u64, x: u64) -> u64 {
-    ((h << 7) | (h >> 57)) ^ x
+// How many events came, and their sum.
+#[derive(Clone, Copy, Debug, Default, PartialEq, Eq)]
+pub(crate) struct Seen {
+    pub(crate) events: u64,
+    pub(crate) sum: u64,
 }
 
-fn with_call(h: u64, c: Call) -> u64 {
-    let place = mixed(mixed(mixed(h, 1), c.process as u64), c.index as u64);
-    let word = mixed(mixed(place, c.op as u64), c.uaddr as u64);
-    let val = mixed(mixed(word, c.val as u64), c.flag as u64);
-    mixed(mixed(mixed(val, c.timeout), c.uaddr2 as u64), c.val3 as u64)
-}
+impl Seen {
+    // A query has no record, and none is found.
+    pub(crate) fn add(&mut self, event: Event) {
+        self.events = self.events.saturating_add(1);
+        match event {
+            Event::Call(call) => self.mix_call(call),
+            Event::Store {
+                process,
+                address,
+                value,
+            } => self.mix(&[2, process.into(), address.into(), value.into()]),
+            Event::Clock { time } => self.mix(&[3, time]),
+            Event::Interrupt { process, index } => self.mix(&[4, process.into(), index.into()]),
+            Event::Query { process } => self.mix(&[0, process.into()]),
+            Event::SetPriority {
+                process,
+                index,
+                priority,
+            } => self.mix(&[5, process.into(), index.into(), priority.into()]),
+        }
+    }
 
-// A query has no record, and none is found.
-pub(crate) fn with_event(h: u64, e: Event) -> u64 {
-    match e {
-        Event::Call(c) => with_call(h, c),
-        Event::Store {
-            process: p,
-            address: a,
-            value: v,
-        } => mixed(mixed(mixed(mixed(h, 2), p as u64), a as u64), v as u64),
-        Event::Clock { time } => mixed(mixed(h, 3), time),
-        Event::Interrupt {
-            process: p,
-            index: i,
-        } => mixed(mixed(mixed(h, 4), p as u64), i as u64),
-        Event::Query { process: p } => mixed(mixed(h, 0), p as u64),
-        Event::SetPriority {
-            process: p,
-            index: i,
-            priority: n,
-        } => mixed(mixed(mixed(mixed(h, 5), p as u64), i as u64), n as u64),
+    fn mix_call(&mut self, call: Call) {
+        self.mix(&[
+            1,
+            call.process.into(),
+            call.index.into(),
+            call.op.into(),
+            call.uaddr.into(),
+            call.val.into(),
+            call.flag.into(),
+            call.timeout,
+            call.uaddr2.into(),
+            call.val3.into(),
+        ]);
+    }
+
+    fn mix(&mut self, numbers: &[u64]) {
+        self.sum = numbers
+            .iter()
+            .fold(self.sum, |sum, number| sum.rotate_left(7) ^ *number);
     }
 }

@@ -1,172 +1,92 @@
 // Scripts: records of a kind byte and a body, numbers little-endian; second/README.md describes them.
-ghost use Rattle.std.specs.Prelude.{◌≤◌, ◌<◌};
-
+use crate::poke::Poke;
 use rules::event::{Call, Event};
 use std::io::{self, Read};
-use tables::{LastAnswer, State, THREADS, Thread};
 
-// The kind of the next record; 0 at the end of the script.
-pub(crate) fn next_kind(input: &mut impl Read) -> io::Result<u8> {
-    let mut one = [0u8; 1];
-    let n = input.read(&mut one)?;
-    Ok(if n == 0 { 0 } else { one[0] })
+// What a record asks for.
+#[derive(Clone, Copy, Debug, PartialEq, Eq)]
+pub(crate) enum Record {
+    Event(Event),
+    Fresh,
+    Lend(u32),
+    Poke(Poke),
+    Word { process: u8, address: u32 },
+    Dump,
+    // A byte that is no kind: it is passed over.
+    Unknown,
 }
 
-fn body_length(kind: u8) -> usize
-    ensures { result ≤ 31 }
-{
-    match kind {
-        1 => 31,
-        2 => 9,
-        3 => 8,
-        4 => 2,
-        5 => 3,
-        77 => 4,
-        80 => 10,
-        81 => 1,
-        87 => 5,
-        _ => 0,
-    }
-}
-
-// The body of a record, with zeros behind it, and for what the script no longer has.
-pub(crate) fn body(input: &mut impl Read, kind: u8) -> io::Result<[u8; 32]> {
-    let mut all = [0u8; 32];
-    let n = body_length(kind);
-    let mut done: usize = 0;
-    while done < n {
-        let got = input.read(&mut all[done..n])?;
-        if got == 0 {
-            break;
-        }
-        done += got;
+// The next bytes of the script, with zeros for those that it no longer has.
+fn bytes<const N: usize>(input: &mut impl Read) -> io::Result<[u8; N]> {
+    let mut all = [0; N];
+    for (place, byte) in all.iter_mut().zip(input.bytes()) {
+        *place = byte?;
     }
     Ok(all)
 }
 
-fn byte(b: [u8; 32], i: usize) -> u32
-    requires { i < 32 }
-    ensures { result < 256 }
-{
-    (b[i] as u32) % 256
+fn byte(input: &mut impl Read) -> io::Result<u8> {
+    Ok(u8::from_le_bytes(bytes(input)?))
 }
 
-// A number at a place of a body. The callers in this crate hand it a place of the paper's layout.
-pub(crate) fn u32_at(b: [u8; 32], at: usize) -> u32
-    requires { at ≤ 28 }
-{
-    let b0 = byte(b, at);
-    let b1 = byte(b, at + 1);
-    let b2 = byte(b, at + 2);
-    let b3 = byte(b, at + 3);
-    b0 + 256 * b1 + 65536 * b2 + 16777216 * b3
+fn word(input: &mut impl Read) -> io::Result<u32> {
+    Ok(u32::from_le_bytes(bytes(input)?))
 }
 
-// It is called as u32_at is.
-pub(crate) fn u64_at(b: [u8; 32], at: usize) -> u64
-    requires { at ≤ 24 }
-{
-    let low = u32_at(b, at);
-    let high = u32_at(b, at + 4);
-    low as u64 + 4294967296 * (high as u64)
+fn long(input: &mut impl Read) -> io::Result<u64> {
+    Ok(u64::from_le_bytes(bytes(input)?))
 }
 
-// Kinds 1 to 5 as in a log, and a panel query.
-pub(crate) fn is_event(kind: u8) -> bool {
-    (kind <= 5) | (kind == 81)
+fn call(input: &mut impl Read) -> io::Result<Call> {
+    Ok(Call {
+        process: byte(input)?,
+        index: byte(input)?,
+        op: word(input)?,
+        uaddr: word(input)?,
+        val: word(input)?,
+        flag: byte(input)?,
+        timeout: long(input)?,
+        uaddr2: word(input)?,
+        val3: word(input)?,
+    })
 }
 
-pub(crate) fn event_of(kind: u8, b: [u8; 32]) -> Event {
-    match kind {
-        1 => Event::Call(call_of(b)),
-        2 => Event::Store {
-            process: b[0],
-            address: u32_at(b, 1),
-            value: u32_at(b, 5),
+// The next record, of which kinds 1 to 5 are as in a log; none at the end of the script, or at a byte 0, which ends it too.
+pub(crate) fn next(input: &mut impl Read) -> io::Result<Option<Record>> {
+    let record = match byte(input)? {
+        0 => return Ok(None),
+        1 => Record::Event(Event::Call(call(input)?)),
+        2 => Record::Event(Event::Store {
+            process: byte(input)?,
+            address: word(input)?,
+            value: word(input)?,
+        }),
+        3 => Record::Event(Event::Clock { time: long(input)? }),
+        4 => Record::Event(Event::Interrupt {
+            process: byte(input)?,
+            index: byte(input)?,
+        }),
+        5 => Record::Event(Event::SetPriority {
+            process: byte(input)?,
+            index: byte(input)?,
+            priority: byte(input)?,
+        }),
+        b'Q' => Record::Event(Event::Query {
+            process: byte(input)?,
+        }),
+        b'F' => Record::Fresh,
+        b'M' => Record::Lend(word(input)?),
+        b'P' => Record::Poke(Poke {
+            field: byte(input)?,
+            index: byte(input)?,
+            value: long(input)?,
+        }),
+        b'W' => Record::Word {
+            process: byte(input)?,
+            address: word(input)?,
         },
-        3 => Event::Clock { time: u64_at(b, 0) },
-        4 => Event::Interrupt {
-            process: b[0],
-            index: b[1],
-        },
-        5 => Event::SetPriority {
-            process: b[0],
-            index: b[1],
-            priority: b[2],
-        },
-        _ => Event::Query { process: b[0] },
-    }
-}
-
-fn call_of(b: [u8; 32]) -> Call {
-    Call {
-        process: b[0],
-        index: b[1],
-        op: u32_at(b, 2),
-        uaddr: u32_at(b, 6),
-        val: u32_at(b, 10),
-        flag: b[14],
-        timeout: u64_at(b, 15),
-        uaddr2: u32_at(b, 23),
-        val3: u32_at(b, 27),
-    }
-}
-
-fn last_of(code: u64) -> LastAnswer {
-    match code % 4 {
-        0 => LastAnswer::NoneYet,
-        1 => LastAnswer::Woken,
-        2 => LastAnswer::TimedOut,
-        _ => LastAnswer::Interrupted,
-    }
-}
-
-pub(crate) fn last_code(a: LastAnswer) -> u64 {
-    match a {
-        LastAnswer::NoneYet => 0,
-        LastAnswer::Woken => 1,
-        LastAnswer::TimedOut => 2,
-        LastAnswer::Interrupted => 3,
-    }
-}
-
-fn pick(set: bool, new: u64, old: u64) -> u64 {
-    if set { new } else { old }
-}
-
-fn pick_bit(set: bool, new: u64, old: bool) -> bool {
-    if set { new % 2 == 1 } else { old }
-}
-
-fn poked(t: Thread, field: u8, v: u64) -> Thread {
-    let old = t.last;
-    let code = last_code(old);
-    let uaddr = pick(field == 4, v, t.uaddr as u64);
-    let bitset = pick(field == 5, v, t.bitset as u64);
-    let last = last_of(pick(field == 8, v, code));
-    let priority = pick(field == 9, v, t.priority as u64);
-    Thread {
-        waiting: pick_bit(field == 3, v, t.waiting),
-        uaddr: (uaddr % 4294967296) as u32,
-        bitset: (bitset % 4294967296) as u32,
-        timed: pick_bit(field == 6, v, t.timed),
-        deadline: pick(field == 7, v, t.deadline),
-        last: last,
-        priority: (priority % 256) as u8,
-    }
-}
-
-// One field of the tables set.
-pub(crate) fn poke(mut s: State, b: [u8; 32]) -> State {
-    let field = b[0];
-    let i = (b[1] as usize) % THREADS;
-    let v = u64_at(b, 2);
-    let entry = pick(field == 2, v, s.list[i] as u64);
-    let t = s.threads[i];
-    let u = poked(t, field, v);
-    s.clock = pick(field == 0, v, s.clock);
-    s.count = pick(field == 1, v, s.count as u64) as usize;
-    s.list[i] = (entry % 256) as u8;
-    s.threads[i] = u;
-    s
+        b'D' => Record::Dump,
+        _ => Record::Unknown,
+    };
+    Ok(Some(record))
 }

@@ -19,7 +19,7 @@ use Rattle.rules.specs.declared.event.Event.{Event}
 use Rattle.rules.specs.declared.event.Event.TheVariants.{Query}
 use Rattle.rules.specs.declared.answer.Refusal.{Refusal}
 use Rattle.rules.specs.declared.answer.Errno.TheVariants.{ENXIO, EBADF}
-use Rattle.rules.specs.declared.answer.Verdict.TheVariants.{Refuse}
+use Rattle.std.specs.Prelude.{Err}
 use Rattle.rules.specs.declared.answer.Answer.TheVariants.{Refused}
 use Rattle.rules.specs.Answers.{plain, first, Outcome, outcome, is_refused}
 use Rattle.rules.specs.Calls.{first_rows, no_process}
@@ -64,7 +64,7 @@ module _ (b : List ℕ) (size : length b ≡ tables_size) (low : Bytes b) where
 -- bytes that the first two rows refuse
 pub record Unfit (b m : List ℕ) : Type 0 where
   pub refusal : Refusal
-  pub judged : Refuse refusal ≡ first (first_rows (seen b m))
+  pub judged : Err refusal ≡ first (first_rows (seen b m))
 
 abbrev pub Lent : List ℕ → List ℕ → Type 0
 Lent b m = Stand b m (seen b m) ⊎ Unfit b m

@@ -1,16 +1,16 @@
 -- The start of a display: the bytes of the fresh tables stand for these.
 use mathlib.Core.Path.{◌≡◌, refl, sym, subst}
 use mathlib.Core.Logic.{inl}
-use mathlib.Core.Bool.{◌&&◌}
-use mathlib.Core.List.{List}
-use Prim.Native.Nat.{ℕ, ◌≤◌, ◌<◌}
+use mathlib.Core.Bool.{true}
+use mathlib.Core.List.{List, flatten}
+use Prim.Native.Nat.{ℕ}
 use native.Mathlib.Omega.{arith}
-use lib.ListN.{length, replicate, length-replicate, get_or-eq_default}
-use lib.Dec.{leb, ltb}
-use borrow.Author.Tests.{ltb-true, ltb-false}
+use lib.ListN.{replicate, length-replicate}
+use lib.Dec.{ltb}
+use borrow.Author.Tests.{ltb-true}
 use Rattle.lists.specs.LittleEndian.{Bytes}
-use Rattle.lists.proofs.Tests.{cases}
-use Rattle.lists.proofs.Filter.{get_d_replicated}
+use Rattle.lists.specs.Lists.{all}
+use Rattle.lists.proofs.Filter.{get_d_all, get_d_replicated}
 use Rattle.tables.specs.Sizes.{threads, memory_words}
 use Rattle.tables.specs.Editions.{present}
 use Rattle.tables.specs.Tables.{fresh_in, fresh, fresh_thread, thread_of}
@@ -18,9 +18,8 @@ use Rattle.rules.specs.History.{start}
 use Rattle.rules.proofs.Preserved.{start_valid}
 use Rattle.tables.proofs.Sound.{fresh_sound, sound_tables}
 use Rattle.changes.specs.Change.{Fits}
-use Rattle.layout.specs.Layout.{tables_bytes, tables_size, words_bytes, words_at, list_at, waiting_at}
+use Rattle.layout.specs.Layout.{tables_bytes, words_bytes, words_at}
 use Rattle.vradomil.specs.Host.{seen}
-use Rattle.vradomil.proofs.Laying.{fresh_size, fresh_byte}
 use Rattle.vradomil.proofs.Theorems.{tables_stand}
 use Rattle.hosting.proofs.Fitting.{fresh_thread_fits}
 use Rattle.hosting.proofs.Hosting.{Stand, seen_is}
@@ -38,12 +37,12 @@ fresh_fits =
 pub fresh_seen : (m : List ℕ) → seen (tables_bytes fresh) m ≡ start (words_at m)
 fresh_seen m = λ j. record { state = tables_stand fresh (sound_tables fresh (fresh_sound present)) fresh_fits j; words = words_at m }
 
+bytes_low : all (λ x. ltb x 256) (tables_bytes fresh) ≡ true
+unfolding tables_bytes fresh_in flatten
+bytes_low = refl
+
 pub fresh_low : Bytes (tables_bytes fresh)
-fresh_low i = cases (ltb i tables_size)
-    (λ e. subst (◌< 256) (fresh_byte i (ltb-true i tables_size e)) (cases (leb list_at i && ltb i waiting_at) (λ k. rw k (omega arith)) (λ k. rw k (omega arith))))
-    (λ e.
-    let out : length (tables_bytes fresh) ≤ i = omega (arith, fresh_size, ltb-false i tables_size e) in
-    rw (get_or-eq_default (tables_bytes fresh) 0 out) (omega arith))
+fresh_low i = ltb-true _ _ (get_d_all (λ x. ltb x 256) 0 (tables_bytes fresh) refl bytes_low i)
 
 -- fresh tables, and words that are all 0
 zeros_stand : Stand (tables_bytes fresh) (words_bytes (replicate memory_words 0)) (start (replicate memory_words 0))

@@ -39,77 +39,46 @@ pub fn pass(tables: &mut [u8], words: &mut [u8], e: Event) -> i64
     ensures { Hosted e tables.old words.old [] result tables.new words.new [] }
 {
     match e {
-        Event::Call(c) => {
-            let r = pass_call(tables, words, c);
-            r as i64
-        }
+        Event::Call(c) => pass_call(tables, words, c).into(),
         Event::Store {
             process,
             address,
             value,
-        } => {
-            let r = vradomil_store(tables, words, process, address, value);
-            r as i64
-        }
-        Event::Clock { time } => {
-            let r = vradomil_clock(tables, words, time);
-            r as i64
-        }
+        } => vradomil_store(tables, words, process, address, value).into(),
+        Event::Clock { time } => vradomil_clock(tables, words, time).into(),
         Event::Interrupt { process, index } => {
-            let r = vradomil_interrupt(tables, words, process, index);
-            r as i64
+            vradomil_interrupt(tables, words, process, index).into()
         }
-        Event::Query { process } => {
-            let n = vradomil_query(tables, process);
-            n as i64
-        }
+        Event::Query { process } => vradomil_query(tables, process).into(),
         Event::SetPriority {
             process,
             index,
             priority,
-        } => {
-            let r = vradomil_set_priority(tables, words, process, index, priority);
-            r as i64
-        }
+        } => vradomil_set_priority(tables, words, process, index, priority).into(),
     }
 }
 
 // The same with a report, of which a panel query has none.
+// Stays: one function for each of the two kinds of entry points of the C interface, for HostRuns (specs/Hosts.antt) goes by what both ensure.
 pub fn pass_report(tables: &mut [u8], words: &mut [u8], e: Event, report: &mut [u8]) -> i64
     ensures { Hosted e tables.old words.old report.old result tables.new words.new report.new }
 {
     match e {
-        Event::Call(c) => {
-            let r = pass_call_report(tables, words, c, report);
-            r as i64
-        }
+        Event::Call(c) => pass_call_report(tables, words, c, report).into(),
         Event::Store {
             process,
             address,
             value,
-        } => {
-            let r = vradomil_store_report(tables, words, process, address, value, report);
-            r as i64
-        }
-        Event::Clock { time } => {
-            let r = vradomil_clock_report(tables, words, time, report);
-            r as i64
-        }
+        } => vradomil_store_report(tables, words, process, address, value, report).into(),
+        Event::Clock { time } => vradomil_clock_report(tables, words, time, report).into(),
         Event::Interrupt { process, index } => {
-            let r = vradomil_interrupt_report(tables, words, process, index, report);
-            r as i64
+            vradomil_interrupt_report(tables, words, process, index, report).into()
         }
-        Event::Query { process } => {
-            let n = vradomil_query(tables, process);
-            n as i64
-        }
+        Event::Query { process } => vradomil_query(tables, process).into(),
         Event::SetPriority {
             process,
             index,
             priority,
-        } => {
-            let r = vradomil_set_priority_report(tables, words, process, index, priority, report);
-            r as i64
-        }
+        } => vradomil_set_priority_report(tables, words, process, index, priority, report).into(),
     }
 }

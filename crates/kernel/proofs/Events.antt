@@ -64,41 +64,12 @@ pub interrupt_words : (t : ℕ) (w : World) → (interrupt_effect t w).world.wor
 unfolding interrupt_effect
 interrupt_words t w = cases (thread_of w.state t).waiting (λ e. rw e) (λ e. rw e)
 
--- one bit more
-bits_below_next : (n : ℕ) (f : ℕ → Bool) → bits_below (n + 1) f ≡ bits_below n f + bit (f n) * 2 ^ n
-bits_below_next n f = rw (add-one n) (unfold bits_below in refl)
-
 pub bits_small : (n : ℕ) (f : ℕ → Bool) → bits_below n f < 2 ^ n
 unfolding bits_below
 bits_small zero f = omega arith
 bits_small (suc n) f =
     let one : bit (f n) * 2 ^ n ≤ 2 ^ n = cases (f n) (λ e. rw (e, one-mul (2 ^ n)) (omega arith)) (λ e. rw (e, zero-mul (2 ^ n)) (omega arith)) in
     rw (pow-suc 2 n) (omega (arith, bits_small n f, one))
-
--- A loop that sets a bit for each thread of a process has set those below i.
-pub record Bits (waits : ℕ → Bool) (bits one i : ℕ) : Type 0 where
-  pub within : i ≤ threads_per_process
-  pub value : one ≡ 2 ^ i
-  pub done : bits ≡ bits_below i waits
-  pub below : bits < one
-
-pub bits_start : (waits : ℕ → Bool) → Bits waits 0 1 0
-unfolding bits_below
-bits_start waits = record { within = omega arith; value = refl; done = refl; below = omega arith }
-
--- the value stays below a word's
-pub bits_limit : {waits : ℕ → Bool} {bits one i : ℕ} → Bits waits bits one i → one ≤ 2 ^ threads_per_process
-bits_limit g = rw g.value (pow_mono g.within)
-
-pub bits_next : (waits : ℕ → Bool) (bits one i b : ℕ) → Bits waits bits one i → i < threads_per_process → b ≡ cond (waits i) one 0 → b ≤ one
-    → Bits waits (bits + b) (one * 2) (i + 1)
-bits_next waits bits one i b g more is few =
-    record {
-      within = omega arith;
-      value = ap (◌* 2) g.value ∙ sym (rw (add-one i) (pow-suc 2 i));
-      done = cc (g.done, is, bit_choice (waits i) one, g.value, bits_below_next i waits);
-      below = omega (arith, g.below);
-    }
 
 -- a panel query: the process exists and the tables keep the rules, or nobody waits
 pub shown : (s : State) (p : ℕ) → (tables_ok s && ltb p processes) ≡ true → waiting_set p s ≡ cond (leb processes p || not (tables_ok s)) 0 (waiting_set p s)

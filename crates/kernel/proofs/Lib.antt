@@ -1,4 +1,5 @@
 pub mod Calls
 pub mod Steps
 pub mod Events
+pub mod Panels
 pub mod Theorems

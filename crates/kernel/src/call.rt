@@ -5,7 +5,7 @@ ghost use Rattle.kernel.specs.Follows.{Follows};
 use crate::refused;
 use effects::perform;
 use refusals::of_call;
-use rules::answer::{Answered, Verdict};
+use rules::answer::Answered;
 use rules::event::Call;
 use tables::State;
 
@@ -13,9 +13,8 @@ use tables::State;
 pub fn call(s: State, words: &mut [u32], c: Call) -> Answered
     ensures { Follows (CallEvent c) s words.old result words.new }
 {
-    let v = of_call(s, words, c);
-    match v {
-        Verdict::Refuse(x) => refused(x, s),
-        Verdict::Pass => perform(s, words, c),
+    match of_call(s, words, c) {
+        Err(x) => refused(x, s),
+        Ok(()) => perform(s, words, c),
     }
 }

@@ -8,9 +8,9 @@ ghost use Rattle.kernel.specs.Follows.{Follows};
 use crate::call::call;
 use crate::refused;
 use commands::{thread_index, word_index};
-use effects::{counted, only_if};
+use effects::counted;
 use refusals::{of_clock, of_interrupt, of_priority, of_store};
-use rules::answer::{Answer, Answered, Panel, Verdict};
+use rules::answer::{Answer, Answered, Panel};
 use rules::event::Event;
 use tables::check::tables_ok;
 use tables::{LastAnswer, PROCESSES, State, THREADS};
@@ -19,12 +19,10 @@ use tables::{LastAnswer, PROCESSES, State, THREADS};
 pub fn store(s: State, words: &mut [u32], process: u8, address: u32, value: u32) -> Answered
     ensures { Follows (Store process address value) s words.old result words.new }
 {
-    let v = of_store(s, words, process, address, value);
-    match v {
-        Verdict::Refuse(x) => refused(x, s),
-        Verdict::Pass => {
-            let i = word_index(process, address);
-            words[i] = value;
+    match of_store(s, words, process, address, value) {
+        Err(x) => refused(x, s),
+        Ok(()) => {
+            words[word_index(process, address)] = value;
             counted(0, s)
         }
     }
@@ -34,14 +32,14 @@ pub fn store(s: State, words: &mut [u32], process: u8, address: u32, value: u32)
 pub fn set_clock(s: State, words: &[u32], time: u64) -> Answered
     ensures { Follows (Clock time) s words.now result words.now }
 {
-    let v = of_clock(s, words, time);
-    match v {
-        Verdict::Refuse(x) => refused(x, s),
-        Verdict::Pass => {
-            let flags = s.expired(time);
-            let taken = s.end_flagged(flags, LastAnswer::TimedOut);
-            let mut next = taken.state;
-            next.clock = time;
+    match of_clock(s, words, time) {
+        Err(x) => refused(x, s),
+        Ok(()) => {
+            let taken = s.end_flagged(s.expired(time), LastAnswer::TimedOut);
+            let next = State {
+                clock: time,
+                ..taken.state
+            };
             counted(taken.n, next)
         }
     }
@@ -51,40 +49,34 @@ pub fn set_clock(s: State, words: &[u32], time: u64) -> Answered
 pub fn interrupt(s: State, words: &[u32], process: u8, index: u8) -> Answered
     ensures { Follows (Interrupt process index) s words.now result words.now }
 {
-    let v = of_interrupt(s, words, process, index);
-    match v {
-        Verdict::Refuse(x) => refused(x, s),
-        Verdict::Pass => {
+    match of_interrupt(s, words, process, index) {
+        Err(x) => refused(x, s),
+        Ok(()) => {
             let t = thread_index(process, index);
             let mut flags = [false; THREADS];
             flags[t] = true;
             let taken = s.end_flagged(flags, LastAnswer::Interrupted);
-            let next = taken.state;
-            counted(taken.n, next)
+            counted(taken.n, taken.state)
         }
     }
 }
 
 // The waiting threads of a process, a bit for each. It is called by query, for a process that exists.
+#[tactic(auto, unfolding(rules::specs::Events::bits_below, rules::specs::Events::waiting_in))]
 fn waiting_set(s: State, process: usize) -> u8
     requires { process < processes }
     ensures { result ≡ waiting_set process s }
 {
-    let mut bits: u32 = 0;
-    let mut one: u32 = 1;
     let base = State::THREADS_PER_PROCESS * process;
-    let mut i: usize = 0;
-    while i < State::THREADS_PER_PROCESS {
-        let t = s.threads[base + i];
-        let b = only_if(t.waiting, one);
-        bits += b;
-        one = one * 2;
-        i += 1;
+    let mut bits = 0;
+    for i in 0..State::THREADS_PER_PROCESS {
+        bits |= u8::from(s.threads[base + i].waiting) << i;
     }
-    bits as u8
+    bits
 }
 
 // A panel query: the waiting threads of a process, how many they are, and the lowest.
+#[tactic(auto, unfolding(rules::specs::Events::panel_in))]
 pub fn query(s: State, process: u8) -> Panel
     ensures { result ≡ panel process s }
 {
@@ -97,8 +89,8 @@ pub fn query(s: State, process: u8) -> Panel
     };
     Panel {
         waiting: bits,
-        count: u8::count_ones(bits),
-        lowest: u8::trailing_zeros(bits),
+        count: bits.count_ones(),
+        lowest: bits.trailing_zeros(),
     }
 }
 
@@ -106,13 +98,11 @@ pub fn query(s: State, process: u8) -> Panel
 pub fn set_priority(s: State, words: &[u32], process: u8, index: u8, priority: u8) -> Answered
     ensures { Follows (SetPriority process index priority) s words.now result words.now }
 {
-    let v = of_priority(s, words, process, index, priority);
-    match v {
-        Verdict::Refuse(x) => refused(x, s),
-        Verdict::Pass => {
+    match of_priority(s, words, process, index, priority) {
+        Err(x) => refused(x, s),
+        Ok(()) => {
             let t = thread_index(process, index);
-            let next = s.set_priority(t, priority);
-            counted(0, next)
+            counted(0, s.set_priority(t, priority))
         }
     }
 }
@@ -130,13 +120,10 @@ pub fn apply(s: State, words: &mut [u32], e: Event) -> Answered
         } => store(s, words, process, address, value),
         Event::Clock { time } => set_clock(s, words, time),
         Event::Interrupt { process, index } => interrupt(s, words, process, index),
-        Event::Query { process } => {
-            let p = query(s, process);
-            Answered {
-                answer: Answer::Waiting(p),
-                state: s,
-            }
-        }
+        Event::Query { process } => Answered {
+            answer: Answer::Waiting(query(s, process)),
+            state: s,
+        },
         Event::SetPriority {
             process,
             index,

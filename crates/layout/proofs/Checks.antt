@@ -1,5 +1,5 @@
 -- The passes over the bytes say that they stand for tables, and that these keep the rules.
-use mathlib.Core.Path.{◌≡◌, refl, sym, ap, ◌∙◌}
+use mathlib.Core.Path.{◌≡◌, refl, sym, ap, subst, ◌∙◌}
 use mathlib.Core.Bool.{Bool, true, false, not, cond, ◌&&◌, ◌||◌, beq, and_assoc, and_comm, and-true, and-false, or-true}
 use mathlib.Core.List.{List}
 use Prim.Native.Nat.{ℕ, zero, suc, ◌+◌, ◌≤◌, ◌<◌}
@@ -8,18 +8,20 @@ use lib.ListN.{length, drop, get_or, length-drop}
 use lib.Seq.{length-take-le}
 use lib.Dec.{eqb, leb}
 use borrow.Author.Tests.{lt-leb, eq-eqb, ne_eqb}
+use Rattle.std.specs.Prelude.{is_some, Some, None}
+use Rattle.std.specs.Bool.{then_some}
 use Rattle.lists.specs.Lists.{every_below, count_below}
 use Rattle.lists.specs.LittleEndian.{Bytes}
-use Rattle.lists.proofs.Tests.{cases, and_left, and_right}
+use Rattle.lists.proofs.Tests.{cases, clash, and_left, and_right}
 use Rattle.lists.proofs.Count.{every_below_ext, every_below_and, count_below_ext}
 use Rattle.lists.proofs.Tabulate.{length_tabulate, all_tabulate}
 use Rattle.tables.specs.declared.Thread.{Thread}
 use Rattle.tables.specs.Sizes.{threads}
 use Rattle.tables.specs.Editions.{present}
 use Rattle.tables.specs.Tables.{thread_of, arrivals, sizes_ok, priority_ok, record_ok, records_ok, tail_ok, tables_in, tables_ok}
-use Rattle.tables.specs.Steps.{placed}
+use Rattle.tables.specs.Steps.{Places, placed}
 use Rattle.arrivals.specs.Arrivals.{PlacedIn}
-use Rattle.tables.proofs.Checked.{checked}
+use Rattle.tables.proofs.Checked.{checked, unnamed}
 use Rattle.layout.specs.Layout.{max_last, thread_at, state_at, tables_at, tables_size, flags_ok, waiting_at, timed_at, last_at, list_at}
 use Rattle.layout.specs.Check.{flags_fit, waits, agrees, place_ok, place_fits, time_ok, time_fits, Held, Checked}
 use Rattle.layout.proofs.Reading.{thread_read}
@@ -50,17 +52,29 @@ and_move : (f q n p t : Bool) → (f && q && n && p && t) ≡ (f && (q && p && t
 and_move f q n p t = simp and_assoc (ap (λ x. f && (q && x)) (and_comm n (p && t) ∙ and_assoc p t n))
 
 -- the passes in their order, the last of which tests three things; f and r are the rules of the bytes' form and of the records
-regroup : (o t p q g m n f r : Bool) → (g && p && q) ≡ (f && r) → (o && t && p && q && (g && m && n)) ≡ (f && (o && t && (m && r && n)))
-regroup false t p q g m n f r e = sym (and-false f)
-regroup true false p q g m n f r e = sym (and-false f)
-regroup true true p q g true true f r e = simp and-true (and_comm (p && q) g ∙ sym (and_assoc g p q) ∙ e)
-regroup true true p q g true false f r e = simp and-false
-regroup true true p q g false n f r e = rw (and-false g) (and-false (p && q) ∙ sym (and-false f))
+regroup : (t p q g m n f r : Bool) → (g && p && q) ≡ (f && r) → (t && p && q && (g && m && n)) ≡ (f && (t && (m && r && n)))
+regroup false p q g m n f r e = sym (and-false f)
+regroup true p q g true true f r e = simp and-true (and_comm (p && q) g ∙ sym (and_assoc g p q) ∙ e)
+regroup true p q g true false f r e = simp and-false
+regroup true p q g false n f r e = rw (and-false g) (and-false (p && q) ∙ sym (and-false f))
+
+-- a value that stands where a test holds
+answered : (t : Bool) (l : List ℕ) → is_some (then_some t l) ≡ t
+answered true l = refl
+answered false l = refl
+
+chosen : (t : Bool) (l k : List ℕ) → then_some t l ≡ Some k → (t ≡ true) × (l ≡ k)
+chosen true l k e = (refl, cc)
+chosen false l k e = cc
 
 -- bytes of another length stand for no tables
 pub wrong_size : (b : List ℕ) → (length b ≡ tables_size → ⊥) → tables_ok (tables_at b) ≡ false
 unfolding tables_at tables_in
 wrong_size b h = rw (ne_eqb (length b) tables_size h)
+
+-- bytes that stand for no sound tables are refused
+pub refused : (b : List ℕ) → tables_ok (tables_at b) ≡ false → Checked b None
+refused b bad = record { answer = sym bad; held = λ e. clash false e refl; places = λ l e. cc }
 
 module _ (b : List ℕ) (size : length b ≡ tables_size) where
   whole : tables_ok (tables_at b) ≡ (every_below threads (flags_ok b) && tables_ok (state_at b))
@@ -72,6 +86,10 @@ module _ (b : List ℕ) (size : length b ≡ tables_size) where
   wrong_count h =
       let broken : tables_ok (state_at b) ≡ false = unfold tables_in in rw (lt-leb (state_at b).count threads h, and-false (sizes_ok present (state_at b))) in
       whole ∙ rw broken (and-false (every_below threads (flags_ok b)))
+
+  -- a list that names something that is no thread
+  pub wrong_entry : PlacedIn (arrivals (state_at b)) None → tables_ok (tables_at b) ≡ false
+  wrong_entry list = whole ∙ rw (unnamed (state_at b) list) (and-false (every_below threads (flags_ok b)))
 
   rows : every_below threads (flags_fit b) && every_below threads (place_fits b) && every_below threads (time_fits (state_at b).clock b)
       ≡ (every_below threads (flags_ok b) && records_ok (state_at b))
@@ -105,11 +123,11 @@ module _ (b : List ℕ) (size : length b ≡ tables_size) where
       }
 
   -- the passes, in their order
-  module _ (low tail places times flags : Bool) (place : List ℕ) (few : (state_at b).count ≤ threads)
-      (list : PlacedIn (arrivals (state_at b)) low place) (behind : tail ≡ tail_ok (state_at b)) (sleeps : places ≡ every_below threads (place_fits b))
+  module _ (tail places times flags : Bool) (place : List ℕ) (few : (state_at b).count ≤ threads)
+      (list : PlacedIn (arrivals (state_at b)) (Some place)) (behind : tail ≡ tail_ok (state_at b)) (sleeps : places ≡ every_below threads (place_fits b))
       (kept : times ≡ every_below threads (time_fits (state_at b).clock b))
       (fit : flags ≡ (every_below threads (λ i. flags_fit b i && agrees place b i) && eqb (count_below threads (waits b)) (state_at b).count)) where
-    passes : (low && tail && places && times && flags) ≡ tables_ok (tables_at b)
+    passes : (tail && places && times && flags) ≡ tables_ok (tables_at b)
     passes =
         let s = state_at b in
         let listed = every_below threads (agrees place b) in
@@ -121,20 +139,19 @@ module _ (b : List ℕ) (size : length b ≡ tables_size) where
         count_below_ext threads (λ t. (thread_of s t).waiting) (waits b) (λ t l. ap (λ (r : Thread). r.waiting) (thread_read b t l)) in
         let entries : length s.list ≡ threads = unfold state_at in length-take-le threads (drop list_at b) (rw length-drop (omega (arith, size))) in
         let records : length s.threads ≡ threads = unfold state_at in length_tabulate threads (thread_at b) in
-        let all = checked s low tail (listed && records_ok s && counted) place records entries few list behind
+        let all = checked s tail (listed && records_ok s && counted) place records entries few list behind
         (λ i. sym same i && records_ok s && eqb (sym number i) s.count) in
-        (λ i. low && tail && sleeps i && kept i && (fit ∙ ap (◌&& counted) (every_below_and threads (flags_fit b) (agrees place b))) i)
-        ∙ regroup low tail (every_below threads (place_fits b)) (every_below threads (time_fits s.clock b)) (every_below threads (flags_fit b)) listed counted
+        (λ i. tail && sleeps i && kept i && (fit ∙ ap (◌&& counted) (every_below_and threads (flags_fit b) (agrees place b))) i)
+        ∙ regroup tail (every_below threads (place_fits b)) (every_below threads (time_fits s.clock b)) (every_below threads (flags_fit b)) listed counted
         (every_below threads (flags_ok b)) (records_ok s) rows
         ∙ ap (λ x. every_below threads (flags_ok b) && x) all
         ∙ sym whole
 
-    pub told : Bytes b → Checked b (record { ok = low && tail && places && times && flags; place = place })
+    pub told : Bytes b → Checked b (then_some (tail && places && times && flags) place)
     told h =
-        let named : (low && tail && places && times && flags) ≡ true → low ≡ true =
-        λ e. and_left low tail (and_left (low && tail) places (and_left (low && tail && places) times (and_left (low && tail && places && times) flags e))) in
+        let good = tail && places && times && flags in
         record {
-          answer = passes;
-          held = λ e. held h (sym passes ∙ e);
-          places = λ e. list.places (named e);
+          answer = answered good place ∙ passes;
+          held = λ e. held h (sym (answered good place ∙ passes) ∙ e);
+          places = λ l e. subst (λ (q : List ℕ). Places q (arrivals (state_at b))) (chosen good place l e).1 list.places;
         }

@@ -1,10 +1,9 @@
 -- What the check of the bytes computes on the way, and what it tells.
-use Rattle.std.specs.Prelude.{◌≡◌, Bool, true, not, cond, ◌&&◌, List, ℕ, ◌+◌, length, get_or, eqb, leb, ltb}
+use Rattle.std.specs.Prelude.{◌≡◌, Bool, true, not, cond, ◌&&◌, List, ℕ, ◌+◌, length, get_or, eqb, leb, ltb, is_some, Option, Some}
 use Rattle.std.specs.Bool.{beq}
 use Rattle.tables.specs.Sizes.{bytes_per_process}
 use Rattle.tables.specs.Tables.{arrivals, aligned, priority_ok, tables_ok}
 use Rattle.tables.specs.Steps.{Places, placed}
-use Rattle.layout.specs.declared.check.Seen.{Seen}
 use Rattle.layout.specs.Layout.{max_last, waiting_at, timed_at, last_at, thread_at, state_at, tables_bytes, tables_at, tables_size}
 
 -- the flags of thread i stand for something, a thread with a deadline waits, and its priority keeps its rule
@@ -42,7 +41,7 @@ pub record Held (b : List ℕ) : Type 0 where
   pub sound : tables_ok (state_at b) ≡ true
 
 -- What the check tells: whether the bytes stand for tables that keep the rules; and if they do, where each thread stands in the list.
-pub record Checked (b : List ℕ) (r : Seen) : Type 0 where
-  pub answer : r.ok ≡ tables_ok (tables_at b)
-  pub held : r.ok ≡ true → Held b
-  pub places : r.ok ≡ true → Places r.place (arrivals (state_at b))
+pub record Checked (b : List ℕ) (r : Option (List ℕ)) : Type 0 where
+  pub answer : is_some r ≡ tables_ok (tables_at b)
+  pub held : is_some r ≡ true → Held b
+  pub places : (place : List ℕ) → r ≡ Some place → Places place (arrivals (state_at b))

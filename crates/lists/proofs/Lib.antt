@@ -13,5 +13,7 @@ pub mod LeftOver
 pub mod Padded
 pub mod Stores
 pub mod LittleEndian
+pub mod Endian
 pub mod Tabulate
 pub mod Library
+pub mod Mapped

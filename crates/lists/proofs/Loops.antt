@@ -2,10 +2,10 @@
 use mathlib.Core.Path.{◌≡◌, refl, sym, ap, ◌∙◌}
 use mathlib.Core.Bool.{Bool, true, false, not, ◌&&◌, ◌||◌, and_assoc, and-true, or-true, or-false}
 use mathlib.Core.List.{List, [], ◌∷◌, ◌++◌}
-use Prim.Native.Nat.{ℕ, suc, ◌+◌, ◌-◌, ◌≤◌, ◌<◌}
+use Prim.Native.Nat.{ℕ, suc, ◌+◌, ◌-◌, ◌<◌}
 use native.Mathlib.Numerals.{add-one}
 use native.Mathlib.Omega.{arith}
-use lib.ListN.{length, take, drop, get_or, set, replicate, length-append, length-set}
+use lib.ListN.{length, take, drop, get_or, set, replicate, length-append}
 use lib.Seq.{take-suc, take-suc-set, drop-cons, set-append_seam, append_snoc, get_or-set_same, get_or-set_other}
 use lib.Dec.{eqb}
 use borrow.Author.Tests.{eqb-true, eqb-false}
@@ -19,30 +19,6 @@ module _ {A : Type 0} where
 
   pub drop_next : (l : List A) (j : ℕ) (d : A) → j < length l → drop j l ≡ get_or l j d ∷ drop (j + 1) l
   drop_next l j d h = rw add-one (drop-cons l j d h)
-
-  -- A loop that copies the first n elements of ys into a list of m has copied i.
-  pub record Copied (ys : List A) (n m : ℕ) (xs : List A) (i : ℕ) : Type 0 where
-    pub within : i ≤ n
-    pub fits : n ≤ m
-    pub long : length xs ≡ m
-    pub done : take i xs ≡ take i ys
-
-  module _ (ys : List A) (n m : ℕ) where
-    pub copied_start : (xs : List A) → n ≤ m → length xs ≡ m → Copied ys n m xs 0
-    copied_start xs h k = record { within = omega arith; fits = h; long = k; done = refl }
-
-    pub copied_next : (xs : List A) (i : ℕ) (v d : A) → Copied ys n m xs i → i < n → n ≤ length ys → v ≡ get_or ys i d → Copied ys n m (set xs i v) (i + 1)
-    copied_next xs i v d g more enough is =
-        record {
-          within = omega arith;
-          fits = g.fits;
-          long = length-set xs i v ∙ g.long;
-          done = ap (λ k. take k (set xs i v)) (add-one i) ∙ take-suc-set xs i v (omega (arith, g.fits, g.long)) ∙ (λ k. g.done k ++ (is k ∷ []))
-              ∙ sym (take_next ys i d (omega arith));
-        }
-
-    pub copied_all : (xs : List A) (i : ℕ) → Copied ys n m xs i → n ≤ i → take n xs ≡ take n ys
-    copied_all xs i g end = let e : i ≡ n = omega (arith, g.within) in rw e at g.done
 
   -- one element more of a list that is filled from the front
   pub fill_next : (xs rest whole : List A) (i : ℕ) (v : A) → i < length xs → whole ≡ take i xs ++ (v ∷ rest) → whole ≡ take (i + 1) (set xs i v) ++ rest
@@ -73,23 +49,6 @@ module _ {A : Type 0} where
   pub stored_next : (l : List A) (d : A) (f : ℕ → A) (i : ℕ) (v : A) → i < length l → ((t : ℕ) → t < i → get_or l t d ≡ f t) → v ≡ f i
       → (t : ℕ) → t < i + 1 → get_or (set l i v) t d ≡ f t
   stored_next l d f i v h done is t b = stored_at l d f i v h is t (λ e. done t (lt_of_le_ne t i (omega arith) e))
-
-  -- A loop that fills a list of n elements by index has filled those below i.
-  pub record Filled (n : ℕ) (d : A) (f : ℕ → A) (l : List A) (i : ℕ) : Type 0 where
-    pub within : i ≤ n
-    pub size : length l ≡ n
-    pub done : (t : ℕ) → t < i → get_or l t d ≡ f t
-
-  module _ {n : ℕ} {d : A} where
-    pub filled_start : (f : ℕ → A) (l : List A) → length l ≡ n → Filled n d f l 0
-    filled_start f l h = record { within = omega arith; size = h; done = λ t k. absurd (omega arith) }
-
-    pub filled_next : (f : ℕ → A) (l : List A) (i : ℕ) (v : A) → Filled n d f l i → i < n → v ≡ f i → Filled n d f (set l i v) (i + 1)
-    filled_next f l i v g more is =
-        record { within = omega arith; size = length-set l i v ∙ g.size; done = stored_next l d f i v (omega (arith, g.size)) g.done is }
-
-    pub filled_all : (f : ℕ → A) (l : List A) (i : ℕ) → Filled n d f l i → n ≤ i → (t : ℕ) → t < n → get_or l t d ≡ f t
-    filled_all f l i g end t h = g.done t (omega arith)
 
   -- a test of every element
   pub all_snoc : (f : A → Bool) (l : List A) (x : A) → all f (l ++ (x ∷ [])) ≡ (all f l && f x)

@@ -115,6 +115,9 @@ pub elem_append : (t : ℕ) (l m : List ℕ) → elem t (l ++ m) ≡ (elem t l |
 elem_append t [] m = refl
 elem_append t (x ∷ xs) m = let ih = elem_append t xs m in cases (eqb t x) (λ k. cc) (λ k. cc)
 
+pub in_first : (t : ℕ) (l m : List ℕ) → elem t l ≡ true → elem t (l ++ m) ≡ true
+in_first t l m e = elem_append t l m ∙ ap (◌|| elem t m) e
+
 pub in_second : (t : ℕ) (l m : List ℕ) → elem t m ≡ true → elem t (l ++ m) ≡ true
 in_second t l m h = elem_append t l m ∙ rw h (or-true (elem t l))
 

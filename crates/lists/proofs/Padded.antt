@@ -4,12 +4,14 @@ use mathlib.Core.Bool.{cond}
 use mathlib.Core.List.{List, [], ◌∷◌, ◌++◌, append_assoc}
 use Prim.Native.Nat.{ℕ, zero, suc, ◌+◌, ◌-◌, ◌≤◌}
 use native.Mathlib.Omega.{arith}
-use lib.ListN.{length, take, drop, get_or, replicate, length-append, length-drop, get_or-append, replicate-append-replicate}
-use lib.Seq.{length-take-le, take-append-le, drop-append-le, take-append_seam, drop-append-add, get_or-take, get_or-drop, get_or-append-add}
+use lib.ListN.{length, take, drop, get_or, set, replicate, drop_of_length-le, length-append, length-drop, get_or-append, replicate-append-replicate}
+use lib.Seq.{take_all, set-append_seam, length-take-le, take-append-le, drop-append-le, take-append_seam, drop-append-add, get_or-take, get_or-drop, get_or-append-add}
 use lib.Dec.{ltb}
 use borrow.Author.Tests.{ltb-true, ltb-false}
+use Rattle.std.specs.List.{copy_within}
 use Rattle.lists.specs.Lists.{pad_to}
 use Rattle.lists.proofs.Tests.{cases}
+use Rattle.lists.proofs.Loops.{drop_next}
 
 module _ {A : Type 0} where
   drop_replicate : (m k : ℕ) (z : A) → drop m (replicate k z) ≡ replicate (k - m) z
@@ -41,6 +43,18 @@ module _ {A : Type 0} where
         let at : i ≡ length (take (p - 1) l) + k = omega (arith, front) in
         let there : p + k ≡ i + 1 = omega arith in
         rw e (ap (λ j. get_or (take (p - 1) l ++ drop p l) j d) at ∙ get_or-append-add (take (p - 1) l) (drop p l) k d ∙ get_or-drop p l k d ∙ ap (λ j. get_or l j d) there))
+
+    -- as `copy_within` leaves the list, with a filler stored at its end
+    pub copied_out : (n : ℕ) (z d : A) → n ≡ length l → set (copy_within l p n (p - 1)) (n - 1) z ≡ take (p - 1) l ++ (drop p l ++ (z ∷ []))
+    copied_out n z d is =
+        let m = take (p - 1) l ++ drop p l in
+        let whole : take (n - p) (drop p l) ≡ drop p l = take_all (n - p) (drop p l) (omega (arith, length-drop p l)) in
+        let here : p - 1 + (n - p) ≡ n - 1 = omega arith in
+        let next : n - 1 + 1 ≡ n = omega arith in
+        let last : drop (n - 1) l ≡ get_or l (n - 1) d ∷ [] = drop_next l (n - 1) d (omega arith) ∙ ap (get_or l (n - 1) d ∷◌) (drop_of_length-le l {i = n - 1 + 1} (omega arith)) in
+        let end : n - 1 ≡ length m = omega (arith, length_out) in
+        (λ j. set (take (p - 1) l ++ whole j ++ (ap (λ i. drop i l) here ∙ last) j) (end j) z)
+        ∙ set-append_seam m (get_or l (n - 1) d) [] z ∙ append_assoc (take (p - 1) l) (drop p l) (z ∷ [])
 
     -- with a filler more behind them, the list is stored as before
     pub padded_out : (n : ℕ) (z : A) → length l ≤ n

@@ -1,11 +1,12 @@
 -- Stores of several values from a place on.
 use mathlib.Core.Path.{◌≡◌, refl, sym, ap, ◌∙◌}
-use mathlib.Core.List.{List, [], ◌∷◌, ◌++◌}
+use mathlib.Core.List.{List, [], ◌∷◌, ◌++◌, append_assoc}
 use Prim.Native.Nat.{ℕ, suc, ◌+◌, ◌≤◌, ◌<◌}
 use native.Mathlib.Omega.{arith}
 use native.Mathlib.Nat.{add-zero}
-use lib.ListN.{length, drop, get_or, set, length-set, drop_of_length-le}
-use lib.Seq.{sets, set-append_left}
+use lib.ListN.{length, take, drop, get_or, set, length-set, drop_of_length-le}
+use lib.Seq.{sets, sets-eq, set-append_left, drop-drop}
+use borrow.Rule.Slice.PartMut.{put_mid}
 use Rattle.lists.proofs.Loops.{drop_next}
 
 pub sets_append : {A : Type 0} (l : List A) (i : ℕ) (vs ws : List A) → sets (sets l i vs) (i + length vs) ws ≡ sets l i (vs ++ ws)
@@ -40,6 +41,12 @@ sets_all [] [] h = refl
 sets_all [] (v ∷ vs) h = absurd (omega arith)
 sets_all (x ∷ xs) [] h = absurd (omega arith)
 sets_all (x ∷ xs) (v ∷ vs) h = sets_cons v xs 0 vs ∙ ap (λ l. v ∷ l) (sets_all xs vs (omega arith))
+
+-- values copied over a part of a list, as the library puts the part back
+pub sets_copied : {A : Type 0} (l vs part : List A) (k m : ℕ) → part ≡ vs → m ≡ length vs → k + length vs ≤ length l → put_mid k m l part ≡ sets l k vs
+sets_copied l vs part k m copied all room =
+    rw (copied, all, drop-drop (length vs) k l) (sym (append_assoc (take k l) vs (drop (k + length vs) l)))
+    ∙ sym (sets-eq vs l k room)
 
 -- A loop that stores the values of a list from the place k on has stored i.
 module _ {A : Type 0} (b₀ vs : List A) (k : ℕ) where

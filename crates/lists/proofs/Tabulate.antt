@@ -29,7 +29,7 @@ module _ {A : Type 0} where
   all_tabulate q zero f = refl
   all_tabulate q (suc n) f = ap (all q) (tabulate_next n f) ∙ all_snoc q (tabulate n f) (f n) ∙ ap (λ b. b && q (f n)) (all_tabulate q n f)
 
-  tabulate_get_d : (l : List A) (d : A) → l ≡ tabulate (length l) (λ i. get_or l i d)
+  pub tabulate_get_d : (l : List A) (d : A) → l ≡ tabulate (length l) (λ i. get_or l i d)
   tabulate_get_d [] d = refl
   tabulate_get_d (x ∷ xs) d = ap (x ∷◌) (tabulate_get_d xs d)
 

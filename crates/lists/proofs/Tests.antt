@@ -7,6 +7,7 @@ use native.Mathlib.Omega.{arith}
 use mathlib.Core.Bool.{Bool, true, false, ◌&&◌, ◌||◌, beq, true≢false, not, cond, and_assoc, and_comm, or-false}
 use lib.Dec.{eqb, leb, ltb}
 use borrow.Author.Tests.{eqb-true, eqb-false, eq-eqb, ne_eqb, ltb-true, ltb-false, lt-ltb, le-leb, lt-leb}
+use Rattle.std.specs.Int.{from_bool}
 use Rattle.lists.specs.Lists.{bit}
 
 pub cases {ℓ} : {P : Type ℓ} (b : Bool) → (b ≡ true → P) → (b ≡ false → P) → P
@@ -69,6 +70,15 @@ by_test false d e = or-false e
 pub bit_le : (b : Bool) → bit b ≤ 1
 bit_le true = omega arith
 bit_le false = omega arith
+
+-- as the program makes it one
+pub from_bool_bit : (b : Bool) → from_bool b ≡ bit b
+from_bool_bit true = refl
+from_bool_bit false = refl
+
+pub from_bool_le : (b : Bool) → from_bool b ≤ 1
+from_bool_le true = omega arith
+from_bool_le false = omega arith
 
 pub bit_true : (b : Bool) → 1 ≤ bit b → b ≡ true
 bit_true true h = refl

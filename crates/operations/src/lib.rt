@@ -43,13 +43,14 @@ fn cmp_field(v: u32) -> u32
 }
 
 // The word that an argument stands for: in the upper half of its values, itself less all of them.
+#[tactic(auto, using(rules::proofs::WakeOp::low_word))]
 fn extended(arg: u32) -> u32
     ensures { result ≡ modulo word_limit (signed arg_bits arg) }
 {
     if arg < ARGS / 2 {
         arg
     } else {
-        std::num::wrapping_sub_u32(arg, ARGS)
+        arg.wrapping_sub(ARGS)
     }
 }
 
@@ -65,41 +66,34 @@ fn cmp_arg(v: u32) -> u32
     extended(v % ARGS)
 }
 
+#[tactic(auto, unfolding(rules::specs::WakeOp::undefined_op))]
 pub fn undefined_op(v: u32) -> bool
     ensures { result ≡ undefined_op v }
 {
-    let op = op_field(v);
-    let cmp = cmp_field(v);
-    (OP_XOR < op % OPARG_SHIFT) | (CMP_GE < cmp)
+    (OP_XOR < op_field(v) % OPARG_SHIFT) | (CMP_GE < cmp_field(v))
 }
 
+#[tactic(auto, unfolding(rules::specs::WakeOp::operand))]
 fn operand(v: u32) -> u32
     ensures { result ≡ operand v }
 {
-    let op = op_field(v);
     let arg = op_arg(v);
-    if OPARG_SHIFT <= op {
-        1u32 << (arg % WORD_BITS)
+    if OPARG_SHIFT <= op_field(v) {
+        1 << (arg % WORD_BITS)
     } else {
         arg
     }
 }
 
-fn wrapping_sum(a: u32, b: u32) -> u32
-    ensures { result ≡ (a + b) % word_limit }
-{
-    std::num::wrapping_add_u32(a, b)
-}
-
 // The new word of a defined operation.
+#[tactic(auto, unfolding(rules::specs::WakeOp::new_word, rules::specs::WakeOp::operate))]
 pub fn new_word(v: u32, old: u32) -> u32
     ensures { result ≡ new_word v old }
 {
     let x = operand(v);
-    let code = op_field(v) % OPARG_SHIFT;
-    match code {
+    match op_field(v) % OPARG_SHIFT {
         0 => x,
-        1 => wrapping_sum(old, x),
+        1 => old.wrapping_add(x),
         2 => old | x,
         3 => old & !x,
         _ => old ^ x,
@@ -110,7 +104,7 @@ pub fn new_word(v: u32, old: u32) -> u32
 fn turned(word: u32) -> u32
     ensures { result ≡ turned word_bits word }
 {
-    wrapping_sum(word, SIGN)
+    word.wrapping_add(SIGN)
 }
 
 pub fn compares(v: u32, old: u32) -> bool
@@ -118,8 +112,7 @@ pub fn compares(v: u32, old: u32) -> bool
 {
     let x = turned(cmp_arg(v));
     let y = turned(old);
-    let cmp = cmp_field(v);
-    match cmp {
+    match cmp_field(v) {
         0 => y == x,
         1 => y != x,
         2 => y < x,

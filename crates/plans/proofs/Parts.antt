@@ -2,14 +2,13 @@
 use mathlib.Core.Path.{◌≡◌, sym, ap, ◌∙◌}
 use mathlib.Core.Bool.{Bool, true, false, cond}
 use mathlib.Core.List.{List, [], ◌++◌}
-use Prim.Native.Nat.{ℕ, ◌+◌, ◌-◌, ◌≤◌, min}
+use Prim.Native.Nat.{ℕ, ◌+◌, ◌-◌, min}
 use native.Mathlib.Omega.{arith}
 use lib.ListN.{length, take, drop, length-drop, drop_of_length-le}
 use lib.Seq.{take-nil, take_all, take-length, take-take, take-add, take_at, drop_at, length-take-le}
 use lib.Dec.{leb}
 use borrow.Author.Tests.{leb-true, leb-false}
 use Rattle.lists.proofs.Tests.{cases}
-use Rattle.tables.specs.Sizes.{threads_per_process}
 use Rattle.plans.specs.declared.Takes.{Takes}
 
 -- the first cap of a word's sleepers run, the next cap2 move or run too
@@ -86,9 +85,3 @@ two_words l l2 who cap cap2 n m away first next none is =
           ∙ (λ i. (ap (λ k. take k l) first ∙ sym (take_capped l cap)) i ++ (ap (λ k. take k l2) next ∙ sym (take_capped l2 cap2)) i);
       moved = none;
     }
-
--- no more are taken than a process has threads, by how many may be at the first word and at the second
-pub few_taken : (two : Bool) (n2 m2 n from rest m : ℕ) → n2 + m2 ≤ threads_per_process → n ≤ n2 → from ≡ cond two n2 n → rest ≡ cond two m2 (n2 - n) → m ≤ rest
-    → (n + m ≤ threads_per_process) × (from ≤ threads_per_process)
-few_taken true n2 m2 n from rest m few low start left next = (omega arith, omega arith)
-few_taken false n2 m2 n from rest m few low start left next = (omega arith, omega arith)

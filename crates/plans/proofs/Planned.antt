@@ -1,5 +1,5 @@
 -- A plan carried out leaves what the rules say, and takes listed threads, each once.
-use mathlib.Core.Path.{◌≡◌, sym, ap, ◌∙◌}
+use mathlib.Core.Path.{◌≡◌, refl, sym, ap, subst, ◌∙◌}
 use mathlib.Core.Bool.{Bool, true, false, not, cond, ◌&&◌}
 use mathlib.Core.List.{List, [], ◌++◌, append-nil}
 use Prim.Native.Nat.{ℕ, ◌+◌, ◌≤◌}
@@ -7,44 +7,66 @@ use native.Mathlib.Omega.{arith}
 use lib.ListN.{length, take, drop, length-append, length-drop}
 use lib.Seq.{take-add, length-take-le}
 use lib.Dec.{eqb}
+use Rattle.std.specs.Prelude.{Option, is_some, unwrap_or}
+use Rattle.std.specs.Bool.{then_some}
 use Rattle.lists.specs.Lists.{all, elem}
-use Rattle.lists.proofs.Tests.{cases, clash, and_left}
+use Rattle.lists.proofs.Tests.{cases, and_left}
 use Rattle.lists.proofs.Filter.{all_append, all_weaken}
 use Rattle.lists.proofs.Occurs.{occurs, occurs_append, occurs_distinct, occurs_without, occurs_taken_out, absent_occurs, elem_occurs, all_elem}
 use Rattle.tables.specs.declared.State.{State}
 use Rattle.tables.specs.declared.LastAnswer.TheVariants.{Woken}
 use Rattle.tables.specs.Sizes.{threads_per_process}
 use Rattle.tables.specs.Editions.{present}
-use Rattle.tables.specs.Tables.{World, process_of, arrivals, end_sleeps, move_sleeps, write_word, with_state}
+use Rattle.tables.specs.Tables.{World, process_of, arrivals, asleep_at, fall_asleep, end_sleeps, move_sleeps, write_word, with_state}
 use Rattle.tables.proofs.Sound.{Sound, tables_sound, once}
 use Rattle.tables.proofs.Kept.{ending}
 use Rattle.tables.proofs.Stored.{move_nobody}
 use Rattle.rules.specs.declared.event.Command.{Command}
 use Rattle.rules.specs.declared.event.Call.{Call}
-use Rattle.rules.specs.declared.answer.Answer.TheVariants.{Count}
+use Rattle.rules.specs.declared.answer.Answer.TheVariants.{Asleep, Count}
 use Rattle.rules.specs.Answers.{outcome}
 use Rattle.rules.specs.Commands.{command_of, uses}
 use Rattle.rules.specs.WakeOp.{new_word}
-use Rattle.rules.specs.Calls.{matches, mask_of, timeout_given, deadline_of, released, moved, old_word, released_second, wait, wake, requeue, wake_op, call_effect}
+use Rattle.rules.specs.Calls.{caller, matches, mask_of, timeout_given, deadline_of, released, moved, old_word, released_second, wait, wake, requeue, wake_op, call_effect}
 use Rattle.rules.proofs.Chosen.{candidate_own, at_first, at_second, released_pass, moved_pass, second_pass, parts_listed, second_listed}
+use Rattle.plans.specs.declared.Take.{Take}
 use Rattle.plans.specs.declared.Plan.{Plan}
+use Rattle.plans.specs.declared.Plan.TheVariants.{Sleep as SleepPlan, Take as TakePlan}
 use Rattle.plans.specs.declared.Takes.{Takes}
 use Rattle.plans.specs.Ready.{Granted}
-use Rattle.plans.specs.Plans.{carried, Planned, Takes-of}
+use Rattle.plans.specs.Plans.{carried, Fits, Planned, Takes-of}
 use Rattle.plans.proofs.Uses.{moves_second, is_wait_lem, is_requeue, is_wake_op_lem, is_wake}
 
+given : {A : Type 0} (test : Bool) (x : A) → is_some (then_some test x) ≡ test
+given true x = refl
+given false x = refl
+
+-- a sleeper with a deadline, where one is given
+asleep_given : (a m : ℕ) (timed : Bool) (due : ℕ) → asleep_at a m (is_some (then_some timed due)) (unwrap_or (then_some timed due) 0) ≡ asleep_at a m timed due
+asleep_given a m true due = refl
+asleep_given a m false due = refl
+
 -- the plan of a wait
-pub planned_sleep : (c : Call) (w : World) → Granted c w.state w.words → (uses (command_of c.op)).deadline ≡ true → (d : Plan) → d.sleeps ≡ true
-    → d.bitset ≡ mask_of (command_of c.op) c → d.timed ≡ timeout_given c → d.deadline ≡ deadline_of (command_of c.op) c w.state.clock
-    → d.released ≡ 0 → d.moved ≡ 0 → d.writes ≡ false → d.count ≡ 0 → Planned c w d
+pub planned_sleep : (c : Call) (w : World) → Granted c w.state w.words → (uses (command_of c.op)).deadline ≡ true → (mask : ℕ) (due : Option ℕ)
+    → mask ≡ mask_of (command_of c.op) c → due ≡ then_some (timeout_given c) (deadline_of (command_of c.op) c w.state.clock)
+    → Planned c w (SleepPlan (record { bitset = mask; deadline = due }))
 unfolding carried wait
-planned_sleep c w g wait d sleeps mask timed due none nobody keeps count =
-    let few : d.released + d.moved ≡ 0 = omega arith in
+planned_sleep c w g wait mask due is_mask is_due =
+    let k = command_of c.op in
     record {
-      effect = is_wait_lem (command_of c.op) c w g.known wait ∙ rw (sleeps, mask, timed, due);
-      fits = record { few = omega arith; own = rw few; each = rw few; apart = rw few; small = omega arith };
-      second = λ e. clash d.writes e keeps;
+      effect = is_wait_lem (command_of c.op) c w g.known wait
+          ∙ rw (is_mask, is_due) (ap (λ f. outcome Asleep (with_state (fall_asleep f (caller c) w.state) w)) (sym (asleep_given c.uaddr (mask_of k c) (timeout_given c) (deadline_of k c w.state.clock))));
+      fits = λ t e. cc;
+      second = λ t e s. cc;
     }
+
+-- one plan is of one kind
+abbrev taken_of : Take → Plan → Take
+taken_of d (TakePlan t) = t
+taken_of d (SleepPlan s) = d
+
+taking : (d t : Take) → TakePlan d ≡ TakePlan t → d ≡ t
+taking d t e = ap (taken_of d) e
 
 -- the plan of any other call, by whom it takes
 module _ (c : Call) (w : World) (g : Granted c w.state w.words) (go : (uses (command_of c.op)).deadline ≡ false) (t : Takes) (few : t.released + t.moved ≤ threads_per_process)
@@ -121,29 +143,23 @@ module _ (c : Call) (w : World) (g : Granted c w.state w.words) (go : (uses (com
       (cases ((uses k).second && not (uses k).moves) (λ e. rw e mine_second) (λ e. rw e)))
       (ap (all own) is.moved ∙ cases (uses k).moves (λ e. rw e (mine (moved k c w.state) (moved_pass present k c w.state))) (λ e. rw e))
 
-  abbrev plan : ℕ → ℕ → Plan
-  plan word count =
-      record {
-        sleeps = false;
-        bitset = 0;
-        timed = false;
-        deadline = 0;
-        taken = t.taken;
-        released = t.released;
-        moved = t.moved;
-        writes = (uses k).second && not (uses k).moves;
-        word = word;
-        count = count;
-      }
+  abbrev plan : Option ℕ → ℕ → Take
+  plan word count = record { taken = t.taken; released = t.released; moved = t.moved; word = word; count = count }
 
-  module _ (word count : ℕ) (new : (uses k).second ≡ true → (uses k).moves ≡ false → word ≡ new_word c.val3 (old_word c w)) (counts : count ≡ t.released + cond (uses k).compare t.moved 0) where
+  module _ (new count : ℕ) (is_new : (uses k).second ≡ true → (uses k).moves ≡ false → new ≡ new_word c.val3 (old_word c w)) (counts : count ≡ t.released + cond (uses k).compare t.moved 0) where
+    abbrev word : Option ℕ
+    word = then_some ((uses k).second && not (uses k).moves) new
+
+    abbrev d : Plan
+    d = TakePlan (plan word count)
+
     abbrev s : State
     s = w.state
 
     first_counted : (l : List ℕ) → rs ≡ l → t.released ≡ length l
     first_counted l e = sym rs_length ∙ ap length e
 
-    requeued : (uses k).moves ≡ true → carried c (plan word count) w ≡ requeue k c w
+    requeued : (uses k).moves ≡ true → carried c d w ≡ requeue k c w
     unfolding carried requeue
     requeued m =
         let stays : ((uses k).second && not (uses k).moves) ≡ false = rw (m, moves_second k m) in
@@ -160,41 +176,42 @@ module _ (c : Call) (w : World) (g : Granted c w.state w.words) (go : (uses (com
         let none : t.moved ≡ 0 = sym ms_length ∙ ap length (ms_stay m) in
         counts ∙ ap (λ n. t.released + cond (uses k).compare n 0) none ∙ cases (uses k).compare (λ e. rw e (omega arith)) (λ e. rw e (omega arith))
 
-    both : (uses k).moves ≡ false → (uses k).second ≡ true → carried c (plan word count) w ≡ wake_op k c w
+    both : (uses k).moves ≡ false → (uses k).second ≡ true → carried c d w ≡ wake_op k c w
     unfolding carried wake_op
     both m d =
         let l = released k c s ++ released_second k c w in
         let n : count ≡ length (released k c s) + length (released_second k c w) =
         all_counted m ∙ first_counted l (rs_both m d) ∙ length-append (released k c s) (released_second k c w) in
         let left = ended m ∙ ap (λ ts. end_sleeps Woken ts s) (rs_both m d) in
-        rw (m, d) (λ i. outcome (Count (n i)) (write_word c.process c.uaddr2 (new d m i) (with_state (left i) w)))
+        rw (m, d) (λ i. outcome (Count (n i)) (write_word c.process c.uaddr2 (is_new d m i) (with_state (left i) w)))
 
-    woken : (uses k).moves ≡ false → (uses k).second ≡ false → carried c (plan word count) w ≡ wake k c w
+    woken : (uses k).moves ≡ false → (uses k).second ≡ false → carried c d w ≡ wake k c w
     unfolding carried wake
     woken m d =
         let n : count ≡ length (released k c s) = all_counted m ∙ first_counted (released k c s) (rs_wake m d) in
         let left = ended m ∙ ap (λ ts. end_sleeps Woken ts s) (rs_wake m d) in
         rw (m, d) (λ i. outcome (Count (n i)) (with_state (left i) w))
 
-    effect : call_effect k c w ≡ carried c (plan word count) w
+    effect : call_effect k c w ≡ carried c d w
     effect = cases (uses k).moves
         (λ m. is_requeue k c w g.known go m ∙ sym (requeued m))
         (λ m. cases (uses k).second
         (λ d. is_wake_op_lem k c w g.known go m d ∙ sym (both m d))
         (λ d. is_wake k c w g.known go m d ∙ sym (woken m d)))
 
-    pub planned_take : Planned c w (plan word count)
+    pub planned_take : Planned c w d
     planned_take =
         record {
           effect = effect;
-          fits =
-              record {
+          fits = λ x e. subst (λ y. Fits c.process y w.state) (taking (plan word count) x e)
+              (record {
                 few = few;
                 own = taken_own;
                 each = all_elem (λ x. elem x (arrivals w.state)) (take (t.released + t.moved) t.taken)
                     (λ x e. cases (elem x (arrivals w.state)) (λ h. h) (λ h. absurd (omega (arith, elem_occurs x (take (t.released + t.moved) t.taken) e, taken_listed x, absent_occurs x (arrivals w.state) h))));
                 apart = occurs_distinct (take (t.released + t.moved) t.taken) (λ x. omega (arith, taken_listed x, once w.state sound x));
                 small = cases (uses k).compare (λ e. let n : count ≡ t.released + t.moved = counts ∙ rw e in omega arith) (λ e. let n : count ≡ t.released + 0 = counts ∙ rw e in omega arith);
-              };
-          second = λ e. and_left (uses k).second (not (uses k).moves) e;
+              });
+          second = λ x e some. and_left (uses k).second (not (uses k).moves)
+              (sym (given ((uses k).second && not (uses k).moves) new) ∙ ap (λ (y : Take). is_some y.word) (taking (plan word count) x e) ∙ some);
         }

@@ -8,6 +8,7 @@ use lib.ListN.{length, take, drop, length-drop}
 use lib.Seq.{take-add, length-take-le}
 use lib.Dec.{eqb}
 use borrow.Author.Tests.{eqb-true}
+use Rattle.std.specs.Prelude.{Some, None, is_some}
 use Rattle.lists.specs.Lists.{elem}
 use Rattle.lists.proofs.Occurs.{occurs, distinct_occurs, elem_all}
 use Rattle.tables.specs.declared.State.{State}
@@ -19,60 +20,63 @@ use Rattle.rules.specs.Commands.{command_of, is_unknown, uses}
 use Rattle.rules.specs.Calls.{caller, old_word, call_effect}
 use Rattle.views.specs.declared.View.{View}
 use Rattle.views.specs.Views.{Views}
+use Rattle.plans.specs.declared.Sleep.{Sleep}
+use Rattle.plans.specs.declared.Take.{Take}
 use Rattle.plans.specs.declared.Plan.{Plan}
+use Rattle.plans.specs.declared.Plan.TheVariants.{Sleep as SleepPlan, Take as TakePlan}
 use Rattle.plans.specs.Ready.{Granted}
 use Rattle.plans.specs.Plans.{released_of, moved_of, written, carried, Planned, PlannedSleep, PlannedTake}
 
 -- whom a plan takes: those that run, and behind them those that move
-pub taken_are : (d : Plan) → take (d.released + d.moved) d.taken ≡ released_of d ++ moved_of d
+pub taken_are : (d : Take) → take (d.released + d.moved) d.taken ≡ released_of d ++ moved_of d
 taken_are d = take-add d.released d.moved d.taken
 
 -- as many as it says
-pub released_counted : (d : Plan) → d.released ≤ length d.taken → length (released_of d) ≡ d.released
+pub released_counted : (d : Take) → d.released ≤ length d.taken → length (released_of d) ≡ d.released
 released_counted d = length-take-le d.released d.taken
 
-pub moved_counted : (d : Plan) → d.released + d.moved ≤ length d.taken → length (moved_of d) ≡ d.moved
+pub moved_counted : (d : Take) → d.released + d.moved ≤ length d.taken → length (moved_of d) ≡ d.moved
 moved_counted d fits = length-take-le d.moved (drop d.released d.taken) (omega (arith, length-drop d.released d.taken))
 
-pub word_written : (c : Call) (d : Plan) (w : World) → d.writes ≡ true → written c d w ≡ write_word c.process c.uaddr2 d.word w
-word_written c d w writes = rw writes
+pub word_written : (c : Call) (d : Take) (w : World) (v : ℕ) → d.word ≡ Some v → written c d w ≡ write_word c.process c.uaddr2 v w
+word_written c d w v writes = rw writes
 
-pub word_kept : (c : Call) (d : Plan) (w : World) → d.writes ≡ false → written c d w ≡ w
+pub word_kept : (c : Call) (d : Take) (w : World) → d.word ≡ None → written c d w ≡ w
 word_kept c d w keeps = rw keeps
 
-module _ (c : Call) (w : World) (d : Plan) (is : Planned c w d) where
-  pub plan_leaves : carried c d w ≡ call_effect (command_of c.op) c w
-  plan_leaves = sym is.effect
+pub plan_leaves : (c : Call) (w : World) (d : Plan) → Planned c w d → carried c d w ≡ call_effect (command_of c.op) c w
+plan_leaves c w d is = sym is.effect
 
+module _ (c : Call) (w : World) (d : Take) (is : Planned c w (TakePlan d)) where
   pub plan_takes_sleepers : tables_ok w.state ≡ true → (t : ℕ) → elem t (take (d.released + d.moved) d.taken) ≡ true → (thread_of w.state t).waiting ≡ true
   plan_takes_sleepers ok t e =
       sym (listed_waiting w.state (tables_sound w.state ok) t)
-      ∙ elem_all (λ x. elem x (arrivals w.state)) (take (d.released + d.moved) d.taken) is.fits.each t e
+      ∙ elem_all (λ x. elem x (arrivals w.state)) (take (d.released + d.moved) d.taken) (is.fits d refl).each t e
 
   pub plan_takes_once : (t : ℕ) → occurs t (take (d.released + d.moved) d.taken) ≤ 1
-  plan_takes_once t = distinct_occurs t (take (d.released + d.moved) d.taken) is.fits.apart
+  plan_takes_once t = distinct_occurs t (take (d.released + d.moved) d.taken) (is.fits d refl).apart
 
   pub plan_takes_own : (t : ℕ) → elem t (take (d.released + d.moved) d.taken) ≡ true → process_of t ≡ c.process
   plan_takes_own t e =
-      eqb-true (process_of t) c.process (elem_all (λ x. eqb (process_of x) c.process) (take (d.released + d.moved) d.taken) is.fits.own t e)
+      eqb-true (process_of t) c.process (elem_all (λ x. eqb (process_of x) c.process) (take (d.released + d.moved) d.taken) (is.fits d refl).own t e)
 
   pub plan_takes_few : d.released + d.moved ≤ threads_per_process
-  plan_takes_few = is.fits.few
+  plan_takes_few = (is.fits d refl).few
 
   pub plan_counts_few : d.count ≤ threads_per_process
-  plan_counts_few = is.fits.small
+  plan_counts_few = (is.fits d refl).small
 
-  pub plan_writes_second : d.writes ≡ true → (uses (command_of c.op)).second ≡ true
-  plan_writes_second = is.second
+  pub plan_writes_second : is_some d.word ≡ true → (uses (command_of c.op)).second ≡ true
+  plan_writes_second = is.second d refl
 
 -- the plan of a wait that is made at the clock's time
-pub wait_planned : (c : Call) (w : World) (d : Plan) → PlannedSleep c w.state.clock d → Granted c w.state w.words → (uses (command_of c.op)).deadline ≡ true
-    → carried c d w ≡ call_effect (command_of c.op) c w
+pub wait_planned : (c : Call) (w : World) (d : Sleep) → PlannedSleep c w.state.clock d → Granted c w.state w.words → (uses (command_of c.op)).deadline ≡ true
+    → carried c (SleepPlan d) w ≡ call_effect (command_of c.op) c w
 wait_planned c w d is granted waits = sym (is w granted waits refl).effect
 
 -- the plan of any other call that is made on the view of its process and the word at its second address
-pub others_planned : (c : Call) (v : View) (w : World) (d : Plan) → PlannedTake c v (old_word c w) d → Granted c w.state w.words
-    → (uses (command_of c.op)).deadline ≡ false → Views c.process w.state v → carried c d w ≡ call_effect (command_of c.op) c w
+pub others_planned : (c : Call) (v : View) (w : World) (d : Take) → PlannedTake c v (old_word c w) d → Granted c w.state w.words
+    → (uses (command_of c.op)).deadline ≡ false → Views c.process w.state v → carried c (TakePlan d) w ≡ call_effect (command_of c.op) c w
 others_planned c v w d is granted goes views = sym (is w granted goes views (λ _. refl)).effect
 
 -- all that is asked of a call, its tables and its words

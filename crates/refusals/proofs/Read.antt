@@ -1,6 +1,6 @@
--- The verdict on what the code reads: a record and a word that may be none.
+-- The verdict of a call on what the code reads: a record and a word that may be none.
 use mathlib.Core.Path.{◌≡◌, refl, ap}
-use mathlib.Core.List.{List, ◌++◌}
+use mathlib.Core.List.{List}
 use Prim.Native.Nat.{ℕ}
 use lib.ListN.{get_or}
 use borrow.Author.Tests.{leb-false}
@@ -9,20 +9,16 @@ use Rattle.rules.specs.declared.event.Call.{Call}
 use Rattle.rules.specs.declared.event.Event.TheVariants.{Call as CallEvent}
 use Rattle.tables.specs.Sizes.{bytes_per_process}
 use Rattle.tables.specs.Tables.{thread_of, world}
-use Rattle.rules.specs.Answers.{Row, first}
+use Rattle.rules.specs.Answers.{first}
 use Rattle.rules.specs.Commands.{command_of}
-use Rattle.rules.specs.Calls.{first_rows, argument_rows, rows_in, call_rows, differs}
-use Rattle.rules.specs.Events.{own_rows, refusals}
+use Rattle.rules.specs.Calls.{argument_rows, rows_in, call_rows, differs}
+use Rattle.rules.specs.Events.{own_rows}
 use Rattle.commands.specs.Places.{thread_place, word_place}
 use Rattle.commands.proofs.Places.{thread_there, word_there}
 use Rattle.rules.proofs.Rows.{Same, ◌then◌, same_behind, same_first}
 use Rattle.rules.proofs.Passed.{thread_process, thread_index, uaddr_inside}
 
--- The verdict on the record t and the word i that the code reads: where the thread or the address does not exist, an earlier row refuses.
-abbrev pub rows_read : Call → State → List ℕ → ℕ → ℕ → List Row
-rows_read c s ws t i =
-    first_rows (world s ws) ++ call_rows c (thread_of s t).waiting s.clock (get_or ws i 0)
-
+-- The record t and the word i that the code reads: where the thread or the address does not exist, an earlier row refuses.
 module _ (c : Call) (s : State) (ws : List ℕ) (t i : ℕ) (thread : t ≡ thread_place c.process c.index) (word : i ≡ word_place c.process c.uaddr) where
   own_same : Same (call_rows c (thread_of s t).waiting s.clock (get_or ws i 0)) (own_rows (CallEvent c) (world s ws))
   unfolding rows_in
@@ -41,10 +37,3 @@ module _ (c : Call) (s : State) (ws : List ℕ) (t i : ℕ) (thread : t ≡ thre
 
   pub own_verdict : first (call_rows c (thread_of s t).waiting s.clock (get_or ws i 0)) ≡ first (own_rows (CallEvent c) (world s ws))
   own_verdict = same_first (call_rows c (thread_of s t).waiting s.clock (get_or ws i 0)) (own_rows (CallEvent c) (world s ws)) own_same
-
-  same_rows : Same (rows_read c s ws t i) (refusals (CallEvent c) (world s ws))
-  unfolding refusals
-  same_rows = refl then λ h1. refl then λ h2. own_same
-
-  pub verdict_is : first (rows_read c s ws t i) ≡ first (refusals (CallEvent c) (world s ws))
-  verdict_is = same_first (rows_read c s ws t i) (refusals (CallEvent c) (world s ws)) same_rows

@@ -6,9 +6,9 @@ use Rattle.lists.proofs.Tests.{cases, clash}
 use Rattle.rules.specs.declared.event.Command.{Command}
 use Rattle.rules.specs.declared.event.Call.{Call}
 use Rattle.rules.specs.declared.answer.Errno.{Errno}
+use Rattle.rules.specs.declared.answer.Refusal.{Refusal}
 use Rattle.rules.specs.declared.answer.Errno.TheVariants.{EINVAL}
-use Rattle.rules.specs.declared.answer.Verdict.{Verdict}
-use Rattle.rules.specs.declared.answer.Verdict.TheVariants.{Refuse}
+use Rattle.std.specs.Prelude.{Result, Err}
 use Rattle.rules.specs.Answers.{Row, ◌because◌, by_rows, reason_among}
 use Rattle.rules.specs.Calls.{bad_argument, argument_rows}
 use Rattle.rules.specs.Claims.{Clear}
@@ -50,18 +50,18 @@ abbrev Invalid : List Row → Type 0
 Invalid [] = Unit {0}
 Invalid (r ∷ rs) = (r.refusal.errno ≡ EINVAL) × Invalid rs
 
-first_reason : (rs : List Row) → Invalid rs → (below : Verdict) → (Clear rs → ⊥) → by_rows Refuse rs below ≡ Refuse (EINVAL because reason_among rs)
+first_reason : (rs : List Row) → Invalid rs → (below : Result (Unit {0}) Refusal) → (Clear rs → ⊥) → by_rows Err rs below ≡ Err (record { errno = EINVAL; reason = reason_among rs })
 first_reason [] i below h = absurd (h tt)
 first_reason (r ∷ rs) i below h = cases r.applies
-    (λ e. rw e (λ j. Refuse (record { errno = i.0 j; reason = r.refusal.reason })))
+    (λ e. rw e (λ j. Err (record { errno = i.0 j; reason = r.refusal.reason })))
     (λ e. rw e (first_reason rs i.1 below (λ c. h (e, c))))
 
 rows_invalid : (k : Command) (c : Call) → Invalid (argument_rows k c)
 unfolding argument_rows
 rows_invalid k c = refl and refl and refl and refl and refl and refl and tt
 
-pub arguments_first : (k : Command) (c : Call) (below : Verdict)
-    → by_rows Refuse (argument_rows k c) below ≡ cond (bad_argument k c) (Refuse (EINVAL because reason_among (argument_rows k c))) below
+pub arguments_first : (k : Command) (c : Call) (below : Result (Unit {0}) Refusal)
+    → by_rows Err (argument_rows k c) below ≡ cond (bad_argument k c) (Err (record { errno = EINVAL; reason = reason_among (argument_rows k c) })) below
 arguments_first k c below = cases (bad_argument k c)
     (λ bad. rw bad (first_reason (argument_rows k c) (rows_invalid k c) below (λ clear. clash (bad_argument k c) bad (clear_arguments k c clear))))
-    (λ good. rw good (rows_clear Refuse (argument_rows k c) below (arguments_clear k c good)))
+    (λ good. rw good (rows_clear Err (argument_rows k c) below (arguments_clear k c good)))

@@ -16,7 +16,7 @@ use Rattle.rules.specs.declared.event.Event.TheVariants.{Call as CallEvent, Stor
 use Rattle.rules.specs.declared.answer.Errno.{Errno}
 use Rattle.rules.specs.declared.answer.Errno.TheVariants.{ENXIO, EBADF, ESRCH, EBUSY, ENOSYS, EINVAL, EFAULT, EAGAIN, ETIMEDOUT}
 use Rattle.rules.specs.declared.answer.Refusal.{Refusal}
-use Rattle.rules.specs.declared.answer.Verdict.TheVariants.{Refuse}
+use Rattle.std.specs.Prelude.{Err}
 use Rattle.rules.specs.declared.answer.Answer.TheVariants.{Refused}
 use Rattle.tables.specs.Sizes.{threads, word_bits}
 use Rattle.tables.specs.Tables.{World, thread_number, thread_of}
@@ -157,7 +157,7 @@ never_full e w = by_call (λ e. Clear (refusals e w) → full e w ≡ false)
     lt-leb threads w.state.count (room w.state g.sound (caller c) (caller_below c g.process g.index) g.runs))
     (λ e none h. none Bool _ false) e
 
-pub judged_refused : (x : Refusal) (rows : List Row) (applies : Bool) (o : Outcome) (w : World) → first rows ≡ Refuse x
+pub judged_refused : (x : Refusal) (rows : List Row) (applies : Bool) (o : Outcome) (w : World) → first rows ≡ Err x
     → judged_with12 rows applies o w ≡ as_with12 (outcome (Refused x) w)
 unfolding judged_with12
 judged_refused x rows applies o w h = rows_refused _ rows _ x h

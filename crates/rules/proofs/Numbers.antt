@@ -15,9 +15,9 @@ use Rattle.rules.specs.declared.event.Event.{Event}
 use Rattle.rules.specs.declared.event.Event.TheVariants.{Call as CallEvent, Store, Clock, Interrupt, Query, SetPriority}
 use Rattle.rules.specs.declared.answer.Errno.{Errno}
 use Rattle.rules.specs.declared.answer.Errno.TheVariants.{ENXIO, EBADF, ESRCH, EBUSY, ENOSYS, EINVAL, EFAULT, EAGAIN, ETIMEDOUT}
-use Rattle.rules.specs.declared.answer.Reason.TheVariants.{NoReason}
 use Rattle.rules.specs.declared.answer.Answer.{Answer}
 use Rattle.rules.specs.declared.answer.Answer.TheVariants.{Asleep, Count, Refused, Waiting}
+use Rattle.std.specs.Prelude.{None}
 use Rattle.tables.specs.Tables.{World, thread_number, thread_of}
 use Rattle.rules.specs.Answers.{Row, Outcome, errno_number, answer_numbers, reason_of, first, judged}
 use Rattle.rules.specs.Commands.{command_of}
@@ -103,13 +103,13 @@ pub answered_once : (e : Event) (w : World) → is_query e ≡ false → length 
 answered_once e w some = ap length (step_number e w) ∙ refused_one (refusals e w) (answer_numbers (effect e w).answer) (effect_one e w some)
 
 -- the rules before reasons gave the same numbers, and no reason
-plain_number : (a : Answer) → (answer_numbers (without_reason a) ≡ answer_numbers a) × (reason_of (without_reason a) ≡ NoReason)
+plain_number : (a : Answer) → (answer_numbers (without_reason a) ≡ answer_numbers a) × (reason_of (without_reason a) ≡ None)
 plain_number Asleep = (refl, refl)
 plain_number (Count n) = (refl, refl)
 plain_number (Refused x) = (refl, refl)
 plain_number (Waiting v) = (refl, refl)
 
-pub before_numbers : (e : Event) (w : World) → (answer_numbers (step_without_reasons e w).answer ≡ numbers_of e w) × (reason_of (step_without_reasons e w).answer ≡ NoReason)
+pub before_numbers : (e : Event) (w : World) → (answer_numbers (step_without_reasons e w).answer ≡ numbers_of e w) × (reason_of (step_without_reasons e w).answer ≡ None)
 before_numbers e w =
     let same = ap (λ (o : Outcome). o.answer) (as_before_reasons e w) in
     let plain = plain_number (step e w).answer in

@@ -25,10 +25,10 @@ use Rattle.rules.specs.declared.event.Command.TheVariants.{CmpRequeue}
 use Rattle.rules.specs.declared.event.Call.{Call}
 use Rattle.rules.specs.declared.event.Event.{Event}
 use Rattle.rules.specs.declared.event.Event.TheVariants.{Call as CallEvent, Store, Clock, Interrupt, Query, SetPriority}
-use Rattle.rules.specs.declared.answer.Reason.TheVariants.{NoReason, FirstCap, SecondCap, MaskZero, UaddrUnaligned, Uaddr2Unaligned, SameAddress, ClockBack, PriorityHigh}
+use Rattle.rules.specs.declared.answer.Reason.TheVariants.{FirstCap, SecondCap, MaskZero, UaddrUnaligned, Uaddr2Unaligned, SameAddress, ClockBack, PriorityHigh}
 use Rattle.rules.specs.declared.answer.Refusal.{Refusal}
 use Rattle.rules.specs.declared.answer.Panel.{Panel}
-use Rattle.rules.specs.declared.answer.Verdict.TheVariants.{Refuse, Pass}
+use Rattle.std.specs.Prelude.{Some, None, Err, Ok}
 use Rattle.rules.specs.declared.answer.Answer.{Answer}
 use Rattle.rules.specs.declared.answer.Answer.TheVariants.{Asleep, Count, Refused, Waiting}
 use Rattle.tables.specs.Sizes.{processes, threads_per_process, threads, no_entry, words_per_process, bytes_per_process, memory_words, max_cap, max_priority, word_bits, word_limit}
@@ -153,14 +153,14 @@ pub clock_kept : (p now : ℕ) (g : List Event) → kept_for p (g ++ Clock now �
 clock_kept p now g = kept_last p g (Clock now)
 
 -- Refusals: the first row that applies, and no row.
-pub first_exactly : (x : Refusal) (rs : List Row) → FirstOf x rs ↔ (first rs ≡ Refuse x)
+pub first_exactly : (x : Refusal) (rs : List Row) → FirstOf x rs ↔ (first rs ≡ Err x)
 first_exactly x rs = (of_first x rs, first_of x rs)
 
-pub clear_exactly : (rs : List Row) → Clear rs ↔ (first rs ≡ Pass)
+pub clear_exactly : (rs : List Row) → Clear rs ↔ (first rs ≡ Ok tt)
 clear_exactly rs = (clear_pass rs, pass_clear rs)
 
 -- Reasons by their numbers, and which commands use the arguments that they speak of, by theirs.
-pub reason_numbers : map reason_number (NoReason ∷ FirstCap ∷ SecondCap ∷ MaskZero ∷ UaddrUnaligned ∷ Uaddr2Unaligned ∷ SameAddress ∷ ClockBack ∷ PriorityHigh ∷ [])
+pub reason_numbers : map reason_number (None ∷ map Some (FirstCap ∷ SecondCap ∷ MaskZero ∷ UaddrUnaligned ∷ Uaddr2Unaligned ∷ SameAddress ∷ ClockBack ∷ PriorityHigh ∷ []))
     ≡ 0 ∷ 1 ∷ 2 ∷ 3 ∷ 4 ∷ 5 ∷ 6 ∷ 7 ∷ 8 ∷ []
 reason_numbers = refl
 
@@ -172,11 +172,11 @@ pub arguments_used : let commands : List ℕ = 0 ∷ 1 ∷ 3 ∷ 4 ∷ 5 ∷ 9 �
 arguments_used = (refl, refl, refl, refl)
 
 pub reason_beside : (x : Refusal) (n : ℕ) (v : Panel)
-    → (reason_of (Refused x) ≡ x.reason) × (reason_of Asleep ≡ NoReason) × (reason_of (Count n) ≡ NoReason) × (reason_of (Waiting v) ≡ NoReason)
+    → (reason_of (Refused x) ≡ x.reason) × (reason_of Asleep ≡ None) × (reason_of (Count n) ≡ None) × (reason_of (Waiting v) ≡ None)
 reason_beside x n v = (refl, refl, refl, refl)
 
 -- The rules before reasons answered by the same numbers, and gave no reason.
-pub before_numbers : (e : Event) (w : World) → (answer_numbers (step_without_reasons e w).answer ≡ numbers_of e w) × (reason_of (step_without_reasons e w).answer ≡ NoReason)
+pub before_numbers : (e : Event) (w : World) → (answer_numbers (step_without_reasons e w).answer ≡ numbers_of e w) × (reason_of (step_without_reasons e w).answer ≡ None)
 before_numbers = Numbers'.before_numbers
 
 -- Signed numbers: a word stands for what the library reads its bits as; and equality by its test, which `compares_signed` speaks of.

@@ -8,6 +8,7 @@ use native.Mathlib.Omega.{arith}
 use lib.Dec.{eqb, ltb}
 use lib.IntN.{ℤ, pos, negsuc, neg_ℤ}
 use borrow.Author.Tests.{ltb-true, ltb-false, lt-ltb, eqb-true, eqb-false, eq-eqb, ne_eqb, not-true, not-false}
+use Rattle.std.proofs.lemmas.Option.{none-some}
 use Rattle.lists.specs.Lists.{filter, all}
 use Rattle.lists.proofs.Tests.{cases, clash, and_intro, and_left, and_right, beq_true}
 use Rattle.rules.specs.declared.event.Call.{Call}
@@ -16,9 +17,9 @@ use Rattle.rules.specs.declared.event.Event.TheVariants.{Call as CallEvent, Stor
 use Rattle.rules.specs.declared.answer.Errno.{Errno}
 use Rattle.rules.specs.declared.answer.Errno.TheVariants.{ENXIO, EBADF, ESRCH, EBUSY, ENOSYS, EINVAL, EFAULT, EAGAIN, ETIMEDOUT}
 use Rattle.rules.specs.declared.answer.Reason.{Reason}
-use Rattle.rules.specs.declared.answer.Reason.TheVariants.{NoReason, FirstCap, SecondCap, MaskZero, UaddrUnaligned, Uaddr2Unaligned, SameAddress, ClockBack, PriorityHigh}
+use Rattle.rules.specs.declared.answer.Reason.TheVariants.{FirstCap, SecondCap, MaskZero, UaddrUnaligned, Uaddr2Unaligned, SameAddress, ClockBack, PriorityHigh}
 use Rattle.rules.specs.declared.answer.Refusal.{Refusal}
-use Rattle.rules.specs.declared.answer.Verdict.TheVariants.{Refuse}
+use Rattle.std.specs.Prelude.{Option, Some, None, Err, IsSomeAnd}
 use Rattle.rules.specs.declared.answer.Answer.{Answer}
 use Rattle.rules.specs.declared.answer.Answer.TheVariants.{Asleep, Count, Refused, Waiting}
 use Rattle.tables.specs.Sizes.{word_bytes, word_limit, max_cap, max_priority}
@@ -37,11 +38,11 @@ data In : Row → List Row → Type 0 where
   behind : {r q : Row} {rs : List Row} → In r rs → In r (q ∷ rs)
 
 -- what each row that applies tells of its reason
-abbrev Each : (Reason → Type 0) → List Row → Type 0
+abbrev Each : (Option Reason → Type 0) → List Row → Type 0
 Each P [] = Unit {0}
 Each P (r ∷ rs) = (r.applies ≡ true → P r.refusal.reason) × Each P rs
 
-first_tells : (P : Reason → Type 0) (rs : List Row) → Each P rs → (x : Refusal) → first rs ≡ Refuse x → P x.reason
+first_tells : (P : Option Reason → Type 0) (rs : List Row) → Each P rs → (x : Refusal) → first rs ≡ Err x → P x.reason
 first_tells P [] h x f = not_pass (sym f)
 first_tells P (r ∷ rs) h x f = cases r.applies
     (λ e. let same : r.refusal ≡ x = cc in subst (λ y. P y.reason) same (h.0 e))
@@ -57,7 +58,7 @@ rising_all n [] h r i = elim i [ ]
 rising_all n (r ∷ rs) h _ at = h.0
 rising_all n (q ∷ rs) h r (behind i) = let rest = rising_all _ rs h.1 r i in omega (arith, h.0, rest)
 
-lowest : (n : ℕ) (rs : List Row) (x : Refusal) → Rising n rs → first rs ≡ Refuse x → (r : Row) → In r rs → r.applies ≡ true
+lowest : (n : ℕ) (rs : List Row) (x : Refusal) → Rising n rs → first rs ≡ Err x → (r : Row) → In r rs → r.applies ≡ true
     → reason_number x.reason ≤ reason_number r.refusal.reason
 lowest n [] x h f r i on = elim i [ ]
 lowest n (r ∷ rs) x h f _ at on = let same : r.refusal ≡ x = cc in rw (sym same) (omega arith)
@@ -80,14 +81,14 @@ is_invalid ETIMEDOUT = false
 abbrev invalid : List Row → List Row
 invalid rs = filter (λ r. is_invalid r.refusal.errno) rs
 
-first_invalid : (rs : List Row) (x : Refusal) → first rs ≡ Refuse x → is_invalid x.errno ≡ true → first (invalid rs) ≡ Refuse x
+first_invalid : (rs : List Row) (x : Refusal) → first rs ≡ Err x → is_invalid x.errno ≡ true → first (invalid rs) ≡ Err x
 first_invalid [] x h is = not_pass (sym h)
 first_invalid (r ∷ rs) x h is = cases r.applies
     (λ e. let same : r.refusal ≡ x = cc in let on : is_invalid r.refusal.errno ≡ true = cc in rw (on, e, same))
     (λ e. let rest = first_invalid rs x (cc) is in cases (is_invalid r.refusal.errno) (λ d. rw (d, e, rest)) (λ d. rw (d, rest)))
 
 -- a reason stands beside -22, and beside no other error
-abbrev has_reason : Reason → Bool
+abbrev has_reason : Option Reason → Bool
 has_reason r = not (eqb (reason_number r) 0)
 
 abbrev fitting : Row → Bool
@@ -115,7 +116,7 @@ table_rising (SetPriority p i n) w = omega arith and tt
 by_both : {P : Type 0} (a b : Bool) → (a ≡ true → b ≡ true → P) → (a && b) ≡ true → P
 by_both a b f h = f (and_left a b h) (and_right a b h)
 
-each_fault : (e : Event) (w : World) → Each (λ q. Fault w q e) (invalid (refusals e w))
+each_fault : (e : Event) (w : World) → Each (λ q. IsSomeAnd q (λ r. Fault w r e)) (invalid (refusals e w))
 unfolding refusals rows_in argument_rows
 each_fault (CallEvent c) w =
     by_both (uses (command_of c.op)).cap (ltb max_cap c.val) (λ on h. first_cap c on (ltb-true max_cap c.val h))
@@ -131,7 +132,7 @@ each_fault (Interrupt p i) w = tt
 each_fault (Query p) w = tt
 each_fault (SetPriority p i n) w = (λ h. priority_high p i n (ltb-true max_priority n h)) and tt
 
-fault_in : (e : Event) (w : World) (q : Reason) → Fault w q e → (r : Row) × In r (invalid (refusals e w)) × (r.refusal.reason ≡ q) × (r.applies ≡ true)
+fault_in : (e : Event) (w : World) (q : Reason) → Fault w q e → (r : Row) × In r (invalid (refusals e w)) × (r.refusal.reason ≡ Some q) × (r.applies ≡ true)
 unfolding refusals rows_in argument_rows
 fault_in _ w _ (first_cap c u l) = (_, at, refl, and_intro u (lt-ltb max_cap c.val l))
 fault_in _ w _ (second_cap c u l) = (_, behind at, refl, and_intro u (lt-ltb max_cap (c.timeout % word_limit) l))
@@ -144,29 +145,29 @@ fault_in _ w _ (clock_back now l) = (_, at, refl, lt-ltb now w.state.clock l)
 fault_in _ w _ (priority_high p i n l) = (_, at, refl, lt-ltb max_priority n l)
 
 -- Reasons by number: 0 is no reason, and no two have one number.
-abbrev numbered : ℕ → Reason
+abbrev numbered : ℕ → Option Reason
 numbered n =
-    cond (eqb n 1) FirstCap
-    (cond (eqb n 2) SecondCap
-    (cond (eqb n 3) MaskZero
-    (cond (eqb n 4) UaddrUnaligned
-    (cond (eqb n 5) Uaddr2Unaligned
-    (cond (eqb n 6) SameAddress
-    (cond (eqb n 7) ClockBack
-    (cond (eqb n 8) PriorityHigh NoReason)))))))
+    cond (eqb n 1) (Some FirstCap)
+    (cond (eqb n 2) (Some SecondCap)
+    (cond (eqb n 3) (Some MaskZero)
+    (cond (eqb n 4) (Some UaddrUnaligned)
+    (cond (eqb n 5) (Some Uaddr2Unaligned)
+    (cond (eqb n 6) (Some SameAddress)
+    (cond (eqb n 7) (Some ClockBack)
+    (cond (eqb n 8) (Some PriorityHigh) None)))))))
 
-number_back : (r : Reason) → numbered (reason_number r) ≡ r
-number_back NoReason = refl
-number_back FirstCap = refl
-number_back SecondCap = refl
-number_back MaskZero = refl
-number_back UaddrUnaligned = refl
-number_back Uaddr2Unaligned = refl
-number_back SameAddress = refl
-number_back ClockBack = refl
-number_back PriorityHigh = refl
+number_back : (r : Option Reason) → numbered (reason_number r) ≡ r
+number_back None = refl
+number_back (Some FirstCap) = refl
+number_back (Some SecondCap) = refl
+number_back (Some MaskZero) = refl
+number_back (Some UaddrUnaligned) = refl
+number_back (Some Uaddr2Unaligned) = refl
+number_back (Some SameAddress) = refl
+number_back (Some ClockBack) = refl
+number_back (Some PriorityHigh) = refl
 
-same_reason : (q r : Reason) → reason_number q ≡ reason_number r → q ≡ r
+same_reason : (q r : Option Reason) → reason_number q ≡ reason_number r → q ≡ r
 same_reason q r h = sym (number_back q) ∙ ap numbered h ∙ number_back r
 
 -- An answer is -22 where it refuses with EINVAL.
@@ -203,7 +204,7 @@ minus_22 (Refused x) h = only_22 (neg_ℤ (pos (errno_number x.errno))) (errno_2
 minus_22 (Waiting v) h = clash true refl (sym h)
 
 -- Such an answer has a reason, and no other has one.
-first_all : (f : Row → Bool) (rs : List Row) → all f rs ≡ true → (x : Refusal) → first rs ≡ Refuse x → (b : Bool) × (f (record { refusal = x; applies = b }) ≡ true)
+first_all : (f : Row → Bool) (rs : List Row) → all f rs ≡ true → (x : Refusal) → first rs ≡ Err x → (b : Bool) × (f (record { refusal = x; applies = b }) ≡ true)
 first_all f [] h x r = not_pass (sym r)
 first_all f (q ∷ rs) h x r = cases q.applies
     (λ e. let same : q.refusal ≡ x = cc in (q.applies, subst (λ y. f (record { refusal = y; applies = q.applies }) ≡ true) same (and_left _ (all f rs) h)))
@@ -220,26 +221,26 @@ reason_with_22 e w = verdicts e w
     (λ x r. rw (step_refused e w x r) (beq_true (has_reason x.reason) (is_invalid x.errno) (first_all fitting (refusals e w) (table_fitting e w) x r).1))
     (λ r. rw (step_clear e w r) (not_refused (effect e w).answer (granted e w r)))
 
-pub reason_none : (e : Event) (w : World) → (reason_of (step e w).answer ≡ NoReason) ↔ (answer_numbers (step e w).answer ≡ neg_ℤ (pos 22) ∷ [] → ⊥)
+pub reason_none : (e : Event) (w : World) → (reason_of (step e w).answer ≡ None) ↔ (answer_numbers (step e w).answer ≡ neg_ℤ (pos 22) ∷ [] → ⊥)
 reason_none e w =
     let a = (step e w).answer in (
       (λ h n. clash (refuses22 a) (numbers_22 a n) (sym (reason_with_22 e w) ∙ ap has_reason h)),
       (λ h. cases (refuses22 a)
           (λ on. absurd (h (minus_22 a on)))
-          (λ off. same_reason (reason_of a) NoReason (eqb-true (reason_number (reason_of a)) 0 (not-false _ (reason_with_22 e w ∙ off))))),
+          (λ off. same_reason (reason_of a) None (eqb-true (reason_number (reason_of a)) 0 (not-false _ (reason_with_22 e w ∙ off))))),
     )
 
 -- The reason of an answer that is -22: a fault of the event, and the lowest that it has.
 refused_22 : (e : Event) (w : World) (a : Answer) → (step e w).answer ≡ a → refuses22 a ≡ true
-    → (x : Refusal) × (first (invalid (refusals e w)) ≡ Refuse x) × (reason_of a ≡ x.reason)
+    → (x : Refusal) × (first (invalid (refusals e w)) ≡ Err x) × (reason_of a ≡ x.reason)
 refused_22 e w Asleep is h = clash true refl (sym h)
 refused_22 e w (Count n) is h = clash true refl (sym h)
 refused_22 e w (Refused x) is h = (x, first_invalid (refusals e w) x (refused_row e w x is) h, refl)
 refused_22 e w (Waiting v) is h = clash true refl (sym h)
 
 -- So a number that is -22 and the event alone tell the reason: of a call its arguments, of a store and of the clock there is but one.
-pub reason_told : (e : Event) (w : World) (wrong : Reason) → (refuses22 (step e w).answer ≡ true → reason_of (step e w).answer ≡ wrong)
-    → cond (refuses22 (step e w).answer) wrong NoReason ≡ reason_of (step e w).answer
+pub reason_told : (e : Event) (w : World) (wrong : Option Reason) → (refuses22 (step e w).answer ≡ true → reason_of (step e w).answer ≡ wrong)
+    → cond (refuses22 (step e w).answer) wrong None ≡ reason_of (step e w).answer
 reason_told e w wrong h =
     let a = (step e w).answer in
     cases (refuses22 a)
@@ -251,48 +252,51 @@ pub call_reason : (c : Call) (w : World) → refuses22 (step (CallEvent c) w).an
 unfolding refusals rows_in argument_rows
 call_reason c w h =
     let by = refused_22 (CallEvent c) w (step (CallEvent c) w).answer refl h in
-    by.2 ∙ sym (rows_refused (λ x. x.reason) (argument_rows (command_of c.op) c) NoReason by.0 by.1)
+    by.2 ∙ sym (rows_refused (λ x. x.reason) (argument_rows (command_of c.op) c) None by.0 by.1)
 
-one_reason : (e : Event) (w : World) (r : Reason) → Each (λ q. q ≡ r) (invalid (refusals e w)) → refuses22 (step e w).answer ≡ true
+one_reason : (e : Event) (w : World) (r : Option Reason) → Each (λ q. q ≡ r) (invalid (refusals e w)) → refuses22 (step e w).answer ≡ true
     → reason_of (step e w).answer ≡ r
 one_reason e w r each h =
     let by = refused_22 e w (step e w).answer refl h in
     by.2 ∙ first_tells (λ q. q ≡ r) (invalid (refusals e w)) each by.0 by.1
 
-pub store_reason : (p a v : ℕ) (w : World) → refuses22 (step (Store p a v) w).answer ≡ true → reason_of (step (Store p a v) w).answer ≡ UaddrUnaligned
+pub store_reason : (p a v : ℕ) (w : World) → refuses22 (step (Store p a v) w).answer ≡ true → reason_of (step (Store p a v) w).answer ≡ Some UaddrUnaligned
 unfolding refusals
-store_reason p a v w = one_reason (Store p a v) w UaddrUnaligned ((λ h. refl) and tt)
+store_reason p a v w = one_reason (Store p a v) w (Some UaddrUnaligned) ((λ h. refl) and tt)
 
-pub clock_reason : (now : ℕ) (w : World) → refuses22 (step (Clock now) w).answer ≡ true → reason_of (step (Clock now) w).answer ≡ ClockBack
+pub clock_reason : (now : ℕ) (w : World) → refuses22 (step (Clock now) w).answer ≡ true → reason_of (step (Clock now) w).answer ≡ Some ClockBack
 unfolding refusals
-clock_reason now w = one_reason (Clock now) w ClockBack ((λ h. refl) and tt)
+clock_reason now w = one_reason (Clock now) w (Some ClockBack) ((λ h. refl) and tt)
 
 pub priority_reason : (p i n : ℕ) (w : World) → refuses22 (step (SetPriority p i n) w).answer ≡ true
-    → reason_of (step (SetPriority p i n) w).answer ≡ PriorityHigh
+    → reason_of (step (SetPriority p i n) w).answer ≡ Some PriorityHigh
 unfolding refusals
-priority_reason p i n w = one_reason (SetPriority p i n) w PriorityHigh ((λ h. refl) and tt)
+priority_reason p i n w = one_reason (SetPriority p i n) w (Some PriorityHigh) ((λ h. refl) and tt)
 
-pub interrupt_reason : (p i : ℕ) (w : World) → reason_of (step (Interrupt p i) w).answer ≡ NoReason
+pub interrupt_reason : (p i : ℕ) (w : World) → reason_of (step (Interrupt p i) w).answer ≡ None
 unfolding refusals
 interrupt_reason p i w =
     cases (refuses22 (step (Interrupt p i) w).answer)
-    (one_reason (Interrupt p i) w NoReason tt)
+    (one_reason (Interrupt p i) w None tt)
     (λ off. (reason_none (Interrupt p i) w).1 (λ n. clash (refuses22 (step (Interrupt p i) w).answer) (numbers_22 (step (Interrupt p i) w).answer n) off))
 
 lowest_fault : (e : Event) (w : World) → refuses22 (step e w).answer ≡ true
-    → Fault w (reason_of (step e w).answer) e × ((q : Reason) → Fault w q e → reason_number (reason_of (step e w).answer) ≤ reason_number q)
+    → IsSomeAnd (reason_of (step e w).answer) (λ r. Fault w r e) × ((q : Reason) → Fault w q e → reason_number (reason_of (step e w).answer) ≤ reason_number (Some q))
 lowest_fault e w h =
     let by = refused_22 e w (step e w).answer refl h in
     let rows = invalid (refusals e w) in (
-      rw by.2 (first_tells (λ q. Fault w q e) rows (each_fault e w) by.0 by.1),
+      rw by.2 (first_tells (λ q. IsSomeAnd q (λ r. Fault w r e)) rows (each_fault e w) by.0 by.1),
       (λ q f.
           let row = fault_in e w q f in
-          rw (by.2, sym row.2) (lowest 1 rows by.0 (table_rising e w) by.1 row.0 row.1 row.3)),
+          rw by.2 (subst (λ r. reason_number by.0.reason ≤ reason_number r) row.2 (lowest 1 rows by.0 (table_rising e w) by.1 row.0 row.1 row.3))),
     )
 
 -- what a reason tells: the answer is -22, the fault is there, and no lower one
-abbrev Tells : Event → World → Reason → Type 0
-Tells e w r = (answer_numbers (step e w).answer ≡ neg_ℤ (pos 22) ∷ []) × Fault w r e × ((q : Reason) → reason_number q < reason_number r → Fault w q e → ⊥)
+abbrev Tells : Event → World → Option Reason → Type 0
+Tells e w r =
+    (answer_numbers (step e w).answer ≡ neg_ℤ (pos 22) ∷ [])
+    × IsSomeAnd r (λ q. Fault w q e)
+    × ((q : Reason) → reason_number (Some q) < reason_number r → Fault w q e → ⊥)
 
 given_tells : (e : Event) (w : World) → refuses22 (step e w).answer ≡ true → Tells e w (reason_of (step e w).answer)
 given_tells e w on = let low = lowest_fault e w on in (minus_22 (step e w).answer on, low.0, λ p l f. omega (arith, low.1 p f, l))
@@ -300,13 +304,19 @@ given_tells e w on = let low = lowest_fault e w on in (minus_22 (step e w).answe
 not_below : (m n : ℕ) → m ≤ n → (m < n → ⊥) → m ≡ n
 not_below m n le lt = cases (ltb m n) (λ e. absurd (lt (ltb-true m n e))) (λ e. let ge = ltb-false m n e in omega arith)
 
-pub reason_exactly : (e : Event) (w : World) (r : Reason) → (r ≡ NoReason → ⊥) → (reason_of (step e w).answer ≡ r) ↔ Tells e w r
-reason_exactly e w r some =
+-- a reason that is given is that of no fault below n, where no fault is below n
+none_lower : (F : Reason → Type 0) (n : ℕ) → ((q : Reason) → reason_number (Some q) < n → F q → ⊥) → (r : Option Reason) → IsSomeAnd r F → reason_number r < n → ⊥
+none_lower F n none None h l = absurd h
+none_lower F n none (Some q) h l = none q l h
+
+pub reason_exactly : (e : Event) (w : World) (r : Reason) → (reason_of (step e w).answer ≡ Some r) ↔ Tells e w (Some r)
+reason_exactly e w r =
     let a = (step e w).answer in (
       (λ h. subst (Tells e w) h (cases (refuses22 a)
           (given_tells e w)
-          (λ off. absurd (some (sym h ∙ (reason_none e w).1 (λ n. clash (refuses22 a) (numbers_22 a n) off)))))),
+          (λ off. absurd (none-some r (sym ((reason_none e w).1 (λ n. clash (refuses22 a) (numbers_22 a n) off)) ∙ h))))),
       (λ h.
           let low = lowest_fault e w (numbers_22 a h.0) in
-          same_reason (reason_of a) r (not_below _ _ (low.1 r h.1) (λ l. h.2 (reason_of a) l low.0))),
+          same_reason (reason_of a) (Some r)
+          (not_below _ _ (low.1 r h.1) (none_lower (λ q. Fault w q e) (reason_number (Some r)) h.2 (reason_of a) low.0))),
     )

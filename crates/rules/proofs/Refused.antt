@@ -12,7 +12,7 @@ use Rattle.rules.specs.declared.event.Call.{Call}
 use Rattle.rules.specs.declared.event.Event.{Event}
 use Rattle.rules.specs.declared.event.Event.TheVariants.{Call as CallEvent, Store, Clock, Interrupt, Query, SetPriority}
 use Rattle.rules.specs.declared.answer.Refusal.{Refusal}
-use Rattle.rules.specs.declared.answer.Verdict.TheVariants.{Refuse}
+use Rattle.std.specs.Prelude.{Err}
 use Rattle.rules.specs.declared.answer.Answer.{Answer}
 use Rattle.rules.specs.declared.answer.Answer.TheVariants.{Asleep, Count, Refused, Waiting}
 use Rattle.tables.specs.Tables.{World, thread_number, thread_of}
@@ -45,9 +45,9 @@ granted (Interrupt p i) w h = cases (thread_of w.state (thread_number p i)).wait
 granted (Query p) w h = refl
 granted (SetPriority p i n) w h = refl
 
-pub refused_row : (e : Event) (w : World) (x : Refusal) → (step e w).answer ≡ Refused x → first (refusals e w) ≡ Refuse x
+pub refused_row : (e : Event) (w : World) (x : Refusal) → (step e w).answer ≡ Refused x → first (refusals e w) ≡ Err x
 refused_row e w x h = verdicts e w
-    (λ y r. let same : y ≡ x = cc (step_refused e w y r) in r ∙ ap Refuse same)
+    (λ y r. let same : y ≡ x = cc (step_refused e w y r) in r ∙ ap Err same)
     (λ r. clash (is_refused (step e w).answer) (cc) (cc (step_clear e w r, granted e w r)))
 
 -- an answer that is a number below 0 is a refusal, whose error has that number

@@ -5,8 +5,7 @@ use mathlib.Core.List.{List, [], ◌∷◌, ◌++◌}
 use Prim.Native.Nat.{ℕ}
 use Rattle.lists.proofs.Tests.{cases, never}
 use Rattle.rules.specs.declared.answer.Refusal.{Refusal}
-use Rattle.rules.specs.declared.answer.Verdict.{Verdict}
-use Rattle.rules.specs.declared.answer.Verdict.TheVariants.{Refuse, Pass}
+use Rattle.std.specs.Prelude.{Result, Err, Ok}
 use Rattle.rules.specs.declared.answer.Answer.TheVariants.{Count, Refused}
 use Rattle.rules.specs.declared.event.Event.{Event}
 use Rattle.tables.specs.Editions.{Edition}
@@ -16,23 +15,23 @@ use Rattle.rules.specs.Calls.{first_rows}
 use Rattle.rules.specs.Events.{own_rows, is_query, refusals, effect, step}
 use Rattle.rules.specs.Claims.{FirstOf, here, later, Clear}
 
-pub not_pass {ℓ} : {P : Type ℓ} {x : Refusal} → Refuse x ≡ Pass → P
+pub not_pass {ℓ} : {P : Type ℓ} {x : Refusal} {u : Unit {0}} → Err x ≡ Ok u → P
 not_pass e = never (cc)
 
-pub first_of : (x : Refusal) (rs : List Row) → first rs ≡ Refuse x → FirstOf x rs
+pub first_of : (x : Refusal) (rs : List Row) → first rs ≡ Err x → FirstOf x rs
 first_of x [] h = not_pass (sym h)
 first_of x (r ∷ rs) h = cases r.applies (λ e. here e (cc)) (λ e. later e (first_of x rs (cc)))
 
-pub of_first : (x : Refusal) (rs : List Row) → FirstOf x rs → first rs ≡ Refuse x
+pub of_first : (x : Refusal) (rs : List Row) → FirstOf x rs → first rs ≡ Err x
 of_first x [] f = elim f [ ]
 of_first x (r ∷ rs) (here e n) = cc
 of_first x (r ∷ rs) (later e f) = cc (of_first x rs f)
 
-pub pass_clear : (rs : List Row) → first rs ≡ Pass → Clear rs
+pub pass_clear : (rs : List Row) → first rs ≡ Ok tt → Clear rs
 pass_clear [] h = tt
 pass_clear (r ∷ rs) h = cases r.applies (λ e. not_pass {x = r.refusal} (cc)) (λ e. (e, pass_clear rs (cc)))
 
-pub clear_pass : (rs : List Row) → Clear rs → first rs ≡ Pass
+pub clear_pass : (rs : List Row) → Clear rs → first rs ≡ Ok tt
 clear_pass [] h = refl
 clear_pass (r ∷ rs) h = cc (h.0, clear_pass rs h.1)
 
@@ -55,11 +54,11 @@ pub ◌and◌ : {A B : Type 0} → A → B → A × B
 a and b = (a, b)
 
 -- rows before others: the first of them that applies answers, and where none does, the others answer
-pub refused_before : (rs qs : List Row) (x : Refusal) → first rs ≡ Refuse x → first (rs ++ qs) ≡ Refuse x
+pub refused_before : (rs qs : List Row) (x : Refusal) → first rs ≡ Err x → first (rs ++ qs) ≡ Err x
 refused_before [] qs x h = not_pass (sym h)
 refused_before (r ∷ rs) qs x h = cases r.applies (λ e. cc) (λ e. cc (refused_before rs qs x (cc)))
 
-pub passed_before : (rs qs : List Row) → first rs ≡ Pass → first (rs ++ qs) ≡ first qs
+pub passed_before : (rs qs : List Row) → first rs ≡ Ok tt → first (rs ++ qs) ≡ first qs
 passed_before [] qs h = refl
 passed_before (r ∷ rs) qs h = cases r.applies (λ e. not_pass {x = r.refusal} (cc)) (λ e. cc (passed_before rs qs (cc)))
 
@@ -72,7 +71,7 @@ module _ {ℓ} {A : Type ℓ} (f : Refusal → A) where
   rows_clear [] below h = refl
   rows_clear (r ∷ rs) below h = rw h.0 (rows_clear rs below h.1)
 
-  pub rows_refused : (rs : List Row) (below : A) (x : Refusal) → first rs ≡ Refuse x → by_rows f rs below ≡ f x
+  pub rows_refused : (rs : List Row) (below : A) (x : Refusal) → first rs ≡ Err x → by_rows f rs below ≡ f x
   rows_refused [] below x h = not_pass (sym h)
   rows_refused (r ∷ rs) below x h = cases r.applies
       (λ e. let same : r.refusal ≡ x = cc in rw (e, same))
@@ -108,11 +107,11 @@ same_first (r ∷ rs) (q ∷ qs) h =
     cases r.applies (λ e. cc (h.0, h.1)) (λ e. cc (h.1, same_first rs qs (h.2 e)))
 
 -- a step that a row refuses, and one that none does
-pub step_refused : {ed : Edition} (e : Event) (w : WorldIn ed) (x : Refusal) → first (refusals e w) ≡ Refuse x → step e w ≡ outcome (Refused x) w
+pub step_refused : {ed : Edition} (e : Event) (w : WorldIn ed) (x : Refusal) → first (refusals e w) ≡ Err x → step e w ≡ outcome (Refused x) w
 unfolding step
 step_refused e w x h = ap (λ v. judged v (effect e w) w) h
 
-pub step_passed : {ed : Edition} (e : Event) (w : WorldIn ed) → first (refusals e w) ≡ Pass → step e w ≡ effect e w
+pub step_passed : {ed : Edition} (e : Event) (w : WorldIn ed) → first (refusals e w) ≡ Ok tt → step e w ≡ effect e w
 unfolding step
 step_passed e w h = ap (λ v. judged v (effect e w) w) h
 
@@ -120,13 +119,13 @@ pub step_clear : {ed : Edition} (e : Event) (w : WorldIn ed) → Clear (refusals
 step_clear e w h = step_passed e w (clear_pass (refusals e w) h)
 
 -- by cases, on what the table of answers says of an event
-pub verdicts {ℓ} : {ed : Edition} {P : Type ℓ} (e : Event) (w : WorldIn ed) → ((x : Refusal) → first (refusals e w) ≡ Refuse x → P)
+pub verdicts {ℓ} : {ed : Edition} {P : Type ℓ} (e : Event) (w : WorldIn ed) → ((x : Refusal) → first (refusals e w) ≡ Err x → P)
     → (Clear (refusals e w) → P) → P
 verdicts {P = P} e w refused passed = go (first (refusals e w)) refl
   where
-    go : (v : Verdict) → first (refusals e w) ≡ v → P
-    go (Refuse x) h = refused x h
-    go Pass h = passed (pass_clear (refusals e w) h)
+    go : (v : Result (Unit {0}) Refusal) → first (refusals e w) ≡ v → P
+    go (Err x) h = refused x h
+    go (Ok u) h = passed (pass_clear (refusals e w) h)
 
 -- in two worlds where the same row answers, if any, what holds of the effects and of what is refused holds of the steps
 pub same_rows : {a b : Edition} (e : Event) (w : WorldIn a) (v : WorldIn b) → Same (refusals e w) (refusals e v)

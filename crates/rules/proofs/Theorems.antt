@@ -12,6 +12,7 @@ use lib.ListN.{length, take, drop}
 use lib.Dec.{eqb}
 use Rattle.lists.specs.Lists.{filter, elem, without, count_below, falling}
 use Rattle.lists.proofs.Tests.{by_cases, clash}
+use Rattle.std.specs.Prelude.{Some, None}
 use Rattle.tables.specs.declared.State.{State}
 use Rattle.tables.specs.declared.LastAnswer.TheVariants.{Woken, TimedOut, Interrupted}
 use Rattle.rules.specs.declared.event.Command.{Command}
@@ -20,7 +21,6 @@ use Rattle.rules.specs.declared.event.Call.{Call}
 use Rattle.rules.specs.declared.event.Event.{Event}
 use Rattle.rules.specs.declared.event.Event.TheVariants.{Call as CallEvent, Clock, Interrupt, SetPriority}
 use Rattle.rules.specs.declared.answer.Reason.{Reason}
-use Rattle.rules.specs.declared.answer.Reason.TheVariants.{NoReason}
 use Rattle.rules.specs.declared.answer.Refusal.{Refusal}
 use Rattle.rules.specs.declared.answer.Answer.TheVariants.{Asleep, Count, Refused}
 use Rattle.tables.specs.Sizes.{processes, threads_per_process, threads, bytes_per_process, memory_words, max_priority, word_bits, word_limit}
@@ -90,13 +90,13 @@ answers_by_number = by_number
 -- "Beside the number, give a reason: 1 first cap, 2 second cap, 3 mask zero, 4 uaddr not aligned (also a store's address), 5 uaddr2 not aligned,
 -- 6 same address twice, 7 clock went back": each comes exactly when the answer is -22, the fault is there, and no lower one; "Where several
 -- apply, the lowest is given."
-pub reason_exactly : (e : Event) (w : World) (r : Reason) → (r ≡ NoReason → ⊥)
-    → (reason_of (step e w).answer ≡ r)
-    ↔ ((answer_numbers (step e w).answer ≡ neg_ℤ (pos 22) ∷ []) × Fault w r e × ((q : Reason) → reason_number q < reason_number r → Fault w q e → ⊥))
+pub reason_exactly : (e : Event) (w : World) (r : Reason)
+    → (reason_of (step e w).answer ≡ Some r)
+    ↔ ((answer_numbers (step e w).answer ≡ neg_ℤ (pos 22) ∷ []) × Fault w r e × ((q : Reason) → reason_number (Some q) < reason_number (Some r) → Fault w q e → ⊥))
 reason_exactly = Reasons.reason_exactly
 
 -- "0 with every other answer"
-pub reason_none : (e : Event) (w : World) → (reason_of (step e w).answer ≡ NoReason) ↔ (answer_numbers (step e w).answer ≡ neg_ℤ (pos 22) ∷ [] → ⊥)
+pub reason_none : (e : Event) (w : World) → (reason_of (step e w).answer ≡ None) ↔ (answer_numbers (step e w).answer ≡ neg_ℤ (pos 22) ∷ [] → ⊥)
 reason_none = Reasons.reason_none
 
 -- "The number, its place in the order and what it leaves stay as they are": reasons taken away, an event is answered and leaves what the rules

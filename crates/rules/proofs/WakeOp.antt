@@ -27,9 +27,9 @@ pub low_word : (x : ℕ) → x < 2 ^ (arg_bits - 1) → x ≡ modulo word_limit 
 unfolding signed modulo
 low_word x h = rw (lt-leb (2 ^ (arg_bits - 1)) x h) (omega arith)
 
-pub high_word : (x r : ℕ) → 2 ^ (arg_bits - 1) ≤ x → r < word_limit → (r + 2 ^ arg_bits) % word_limit ≡ x → r ≡ modulo word_limit (signed arg_bits x)
+pub high_word : (x : ℕ) → 2 ^ (arg_bits - 1) ≤ x → x < word_limit → (x + (word_limit - 2 ^ arg_bits)) % word_limit ≡ modulo word_limit (signed arg_bits x)
 unfolding signed modulo
-high_word x r h l e = rw (le-leb (2 ^ (arg_bits - 1)) x h) (cases (ltb x (2 ^ arg_bits))
+high_word x h l = rw (le-leb (2 ^ (arg_bits - 1)) x h) (cases (ltb x (2 ^ arg_bits))
     (λ t. let m = ltb-true x (2 ^ arg_bits) t in rw t (omega arith))
     (λ t. let m = ltb-false x (2 ^ arg_bits) t in rw t (omega arith)))
 

@@ -1,14 +1,12 @@
 -- "Answers by number": the paper's numbers, and how its table of answers is read.
-use Rattle.std.specs.Prelude.{Bool, true, false, cond, List, [], ◌∷◌, ℕ, eqb, ℤ, pos, negsuc, neg_ℤ}
+use Rattle.std.specs.Prelude.{Bool, true, false, cond, List, [], ◌∷◌, ℕ, eqb, ℤ, pos, negsuc, neg_ℤ, Option, Some, None, Result, Ok, Err}
 use Rattle.tables.specs.declared.LastAnswer.{LastAnswer}
 use Rattle.tables.specs.declared.LastAnswer.TheVariants.{NoneYet, Woken, TimedOut, Interrupted}
 use Rattle.rules.specs.declared.answer.Errno.{Errno}
 use Rattle.rules.specs.declared.answer.Errno.TheVariants.{ENXIO, EBADF, ESRCH, EBUSY, ENOSYS, EINVAL, EFAULT, EAGAIN, ETIMEDOUT}
 use Rattle.rules.specs.declared.answer.Reason.{Reason}
-use Rattle.rules.specs.declared.answer.Reason.TheVariants.{NoReason, FirstCap, SecondCap, MaskZero, UaddrUnaligned, Uaddr2Unaligned, SameAddress, ClockBack, PriorityHigh}
+use Rattle.rules.specs.declared.answer.Reason.TheVariants.{FirstCap, SecondCap, MaskZero, UaddrUnaligned, Uaddr2Unaligned, SameAddress, ClockBack, PriorityHigh}
 use Rattle.rules.specs.declared.answer.Refusal.{Refusal}
-use Rattle.rules.specs.declared.answer.Verdict.{Verdict}
-use Rattle.rules.specs.declared.answer.Verdict.TheVariants.{Refuse, Pass}
 use Rattle.rules.specs.declared.answer.Answer.{Answer}
 use Rattle.rules.specs.declared.answer.Answer.TheVariants.{Asleep, Count, Refused, Waiting}
 use Rattle.rules.specs.declared.answer.Answered.{Answered}
@@ -29,16 +27,16 @@ errno_number ETIMEDOUT = 110
 
 -- "1 first cap, 2 second cap, 3 mask zero, 4 uaddr not aligned (also a store's address), 5 uaddr2 not aligned, 6 same address twice,
 -- 7 clock went back; 0 with every other answer"; "-22 if above 31 (reason 8)"
-abbrev pub reason_number : Reason → ℕ
-reason_number NoReason = 0
-reason_number FirstCap = 1
-reason_number SecondCap = 2
-reason_number MaskZero = 3
-reason_number UaddrUnaligned = 4
-reason_number Uaddr2Unaligned = 5
-reason_number SameAddress = 6
-reason_number ClockBack = 7
-reason_number PriorityHigh = 8
+abbrev pub reason_number : Option Reason → ℕ
+reason_number None = 0
+reason_number (Some FirstCap) = 1
+reason_number (Some SecondCap) = 2
+reason_number (Some MaskZero) = 3
+reason_number (Some UaddrUnaligned) = 4
+reason_number (Some Uaddr2Unaligned) = 5
+reason_number (Some SameAddress) = 6
+reason_number (Some ClockBack) = 7
+reason_number (Some PriorityHigh) = 8
 
 -- To a host, "asleep" is this number.
 abbrev pub asleep_number : ℕ
@@ -52,11 +50,11 @@ answer_numbers (Refused x) = neg_ℤ (pos (errno_number x.errno)) ∷ []
 answer_numbers (Waiting v) = pos v.waiting ∷ pos v.count ∷ pos v.lowest ∷ []
 
 -- "Beside the number, give a reason"
-abbrev pub reason_of : Answer → Reason
-reason_of Asleep = NoReason
-reason_of (Count n) = NoReason
+abbrev pub reason_of : Answer → Option Reason
+reason_of Asleep = None
+reason_of (Count n) = None
 reason_of (Refused x) = x.reason
-reason_of (Waiting v) = NoReason
+reason_of (Waiting v) = None
 
 -- the number that has a reason beside it, -22
 abbrev pub is_minus22 : ℤ → Bool
@@ -77,11 +75,11 @@ pub record Row : Type 0 where
 
 infix 80 ◌because◌
 abbrev pub ◌because◌ : Errno → Reason → Refusal
-x because r = record { errno = x; reason = r }
+x because r = record { errno = x; reason = Some r }
 
 -- an error that has no reason beside it: "0 with every other answer"
 abbrev pub plain : Errno → Refusal
-plain x = x because NoReason
+plain x = record { errno = x; reason = None }
 
 infix 70 ◌given◌
 abbrev pub ◌given◌ : Refusal → Bool → Row
@@ -96,12 +94,12 @@ abbrev pub by_rows {ℓ} : {A : Type ℓ} → (Refusal → A) → List Row → A
 by_rows f [] below = below
 by_rows f (r ∷ rs) below = cond r.applies (f r.refusal) (by_rows f rs below)
 
-abbrev pub first : List Row → Verdict
-first rs = by_rows Refuse rs Pass
+abbrev pub first : List Row → Result (Unit {0}) Refusal
+first rs = by_rows Err rs (Ok tt)
 
 -- the reason of the first that applies
-abbrev pub reason_among : List Row → Reason
-reason_among rs = by_rows (λ x. x.reason) rs NoReason
+abbrev pub reason_among : List Row → Option Reason
+reason_among rs = by_rows (λ x. x.reason) rs None
 
 -- What an event leaves: its answer, and the tables and words.
 pub record OutcomeIn (ed : Edition) : Type 0 where
@@ -126,6 +124,6 @@ abbrev pub answered : {ed : Edition} → OutcomeIn ed → Answered
 answered o = record { answer = o.answer; state = o.world.state }
 
 -- "Each of these leaves words, records, list and clock unchanged"
-abbrev pub judged : {ed : Edition} → Verdict → OutcomeIn ed → WorldIn ed → OutcomeIn ed
-judged (Refuse x) o w = outcome (Refused x) w
-judged Pass o w = o
+abbrev pub judged : {ed : Edition} → Result (Unit {0}) Refusal → OutcomeIn ed → WorldIn ed → OutcomeIn ed
+judged (Err x) o w = outcome (Refused x) w
+judged (Ok u) o w = o

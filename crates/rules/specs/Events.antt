@@ -25,12 +25,15 @@ priority_rows_in ed p i n = ESRCH when no_thread_in ed p i ∷ EINVAL because Pr
 abbrev pub priority_rows : ℕ → ℕ → ℕ → List Row
 priority_rows p i n = priority_rows_in present p i n
 
+-- "-6, -9, -3, -22 (not aligned), -14"; "4 uaddr not aligned (also a store's address)"
+abbrev pub store_rows : ℕ → ℕ → List Row
+store_rows p a = ESRCH when no_process p ∷ EINVAL because UaddrUnaligned given not (aligned a) ∷ EFAULT when outside a ∷ []
+
 -- The rows behind the first two, in the order of each event.
 abbrev pub own_rows : {ed : Edition} → Event → WorldIn ed → List Row
 own_rows {ed} (CallEvent c) w =
     rows_in ed c (thread_of w.state (caller_in ed c)).waiting w.state.clock (word_at w c.process c.uaddr)
--- "-6, -9, -3, -22 (not aligned), -14"; "4 uaddr not aligned (also a store's address)"
-own_rows (Store p a v) w = ESRCH when no_process p ∷ EINVAL because UaddrUnaligned given not (aligned a) ∷ EFAULT when outside a ∷ []
+own_rows (Store p a v) w = store_rows p a
 -- "-6, -9, -22 if earlier than the clock"; "7 clock went back"
 own_rows (Clock now) w = EINVAL because ClockBack given ltb now w.state.clock ∷ []
 -- "-6, -9, -3"

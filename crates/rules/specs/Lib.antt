@@ -2,6 +2,7 @@
 -- sizes and tables stand in arrivals and tables, its log in bodies and log. Before has what the requests changed, as it was; Claims and Numbers have
 -- the words in which the theorems speak of them, Cases, WakeOpCases and PriorityCases the cases that are computed.
 pub mod Answers
+pub mod Words
 pub mod Commands
 pub mod Signed
 pub mod WakeOp

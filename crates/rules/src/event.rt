@@ -1,7 +1,10 @@
 // What can happen to the kernel: calls, stores, clock events, interrupts, panel queries and set priorities.
+ghost use Rattle.std.specs.Prelude.{◌≡◌};
+ghost use Rattle.rules.specs.Commands.{numbered};
 
-// The commands of linux/futex.h that the kernel knows.
-#[derive(Clone, Copy)]
+// The commands of linux/futex.h that the kernel knows, and any other.
+// Stays: Unknown is no None, for uses, call_effect and is_unknown of rules/specs take each command, and theorems speak of calls by any op.
+#[derive(Clone, Copy, Debug, PartialEq, Eq)]
 pub enum Command {
     Wait,
     Wake,
@@ -13,8 +16,25 @@ pub enum Command {
     Unknown,
 }
 
+impl From<u32> for Command {
+    ghost from_gives = { λ n command. command ≡ numbered n };
+
+    fn from(n: u32) -> Command {
+        match n {
+            0 => Command::Wait,
+            1 => Command::Wake,
+            3 => Command::Requeue,
+            4 => Command::CmpRequeue,
+            5 => Command::WakeOp,
+            9 => Command::WaitBitset,
+            10 => Command::WakeBitset,
+            _ => Command::Unknown,
+        }
+    }
+}
+
 // Which arguments a command uses, besides uaddr.
-#[derive(Clone, Copy)]
+#[derive(Clone, Copy, Debug, PartialEq, Eq)]
 pub struct Uses {
     // val as a wake cap
     pub cap: bool,
@@ -31,7 +51,7 @@ pub struct Uses {
 }
 
 // A futex call, with the argument names of futex(2); flag says whether a timeout is given.
-#[derive(Clone, Copy)]
+#[derive(Clone, Copy, Debug, PartialEq, Eq)]
 pub struct Call {
     pub process: u8,
     pub index: u8,
@@ -44,7 +64,7 @@ pub struct Call {
     pub val3: u32,
 }
 
-#[derive(Clone, Copy)]
+#[derive(Clone, Copy, Debug, PartialEq, Eq)]
 pub enum Event {
     Call(Call),
     Store {

@@ -1,17 +1,17 @@
 -- The arrival list as it is stored: it names threads, and what is split off it and joined to it is what the changes leave.
-use mathlib.Core.Path.{◌≡◌, refl, sym, ap, ◌∙◌, subst₂}
+use mathlib.Core.Path.{◌≡◌, refl, sym, ap, ◌∙◌}
 use mathlib.Core.Bool.{Bool, true, false, not}
 use mathlib.Core.List.{List, [], ◌∷◌, ◌++◌, append-nil}
 use Prim.Native.Nat.{ℕ, ◌+◌, ◌-◌, ◌≤◌, ◌<◌}
 use native.Mathlib.Omega.{arith}
-use lib.ListN.{length, take, drop, get_or, set, replicate, length-append, length-drop, get_or-append}
-use lib.Seq.{take-add, length-take-le, get_or-take}
+use lib.ListN.{length, take, get_or, set, length-append}
+use lib.Seq.{take_all}
 use lib.Dec.{ltb}
-use borrow.Author.Tests.{ltb-true}
+use borrow.Author.Tests.{ltb-true, lt-ltb}
 use Rattle.lists.specs.Lists.{filter, all, elem, without, pad_to}
 use Rattle.lists.proofs.Tests.{cases}
 use Rattle.lists.proofs.Filter.{all_filtered, length_filter, filter_true}
-use Rattle.lists.proofs.Occurs.{elem_all, elem_get_d, elem_filter, elem_filtered_out, occurs_distinct, filter_agree, without_append}
+use Rattle.lists.proofs.Occurs.{in_first, in_second, elem_all, all_elem, elem_get_d, elem_filter, elem_filtered_out, occurs_distinct, filter_agree, without_append}
 use Rattle.lists.proofs.Loops.{length_snoc, pad_to_snoc}
 use Rattle.lists.proofs.Padded.{take_padded}
 use Rattle.tables.specs.declared.State.{State}
@@ -28,41 +28,40 @@ use Rattle.tables.specs.Steps.{changed_by, Numbers, Flags, flagged, split_of, en
 use Rattle.tables.proofs.Changes.{arrivals_end, change_none, change_one}
 use Rattle.tables.proofs.Sound.{Sound, listed_below, all_low, once, arrivals_fit, few, room}
 
--- a list of thread numbers, stored
-stored_numbers : (ts : List ℕ) → length ts ≤ threads → all (λ t. ltb t threads) ts ≡ true → Numbers (pad_to threads no_entry ts) (length ts)
-stored_numbers ts fits low =
-    record {
-      few = fits;
-      below = λ k h. rw (get_or-append ts (replicate (threads - length ts) no_entry) 0 k h)
-          (ltb-true (get_or ts k 0) threads (elem_all (λ t. ltb t threads) ts low (get_or ts k 0) (elem_get_d ts k 0 h)));
-    }
-
-pub fewer_numbers : (l : List ℕ) (m n : ℕ) → n ≤ m → Numbers l m → Numbers l n
-fewer_numbers l m n less h = record { few = omega (arith, h.few); below = λ k b. h.below k (omega arith) }
+-- a list of thread numbers
+low_numbers : (ts : List ℕ) → length ts ≤ threads → all (λ t. ltb t threads) ts ≡ true → Numbers ts (length ts)
+low_numbers ts fits low =
+    record { few = fits; below = λ k h. ltb-true (get_or ts k 0) threads (elem_all (λ t. ltb t threads) ts low (get_or ts k 0) (elem_get_d ts k 0 h)) }
 
 module _ (s : State) (g : Sound s) where
   -- flags that say which listed threads pass
   pub flagged_listed : (flags : List Bool) (f : ℕ → Bool) → Flags flags f → filter (flagged flags) (arrivals s) ≡ filter f (arrivals s)
   flagged_listed flags f h = filter_agree (flagged flags) f (arrivals s) (λ t e. h t (listed_below s g t e))
 
-  pub list_numbers : Numbers s.list s.count
-  list_numbers = subst₂ Numbers (sym g.stored) (sym g.counted) (stored_numbers (arrivals s) (arrivals_fit s g) (all_low s g))
+  pub list_numbers : Numbers (arrivals s) (length (arrivals s))
+  list_numbers = low_numbers (arrivals s) (arrivals_fit s g) (all_low s g)
 
   -- those who pass, and the others
   module _ (f : ℕ → Bool) (x : Split) (is : x ≡ split_of f (arrivals s)) where
     abbrev found : List ℕ
     found = filter f (arrivals s)
 
-    pub split_numbers : Numbers x.taken x.n
-    unfolding split_of
-    split_numbers = rw is (stored_numbers found (omega (arith, length_filter f (arrivals s), arrivals_fit s g)) (all_filtered (λ t. ltb t threads) f (arrivals s) (all_low s g)))
-
-    split_are : take x.n x.taken ≡ found
+    pub split_are : take x.n x.taken ≡ found
     unfolding split_of
     split_are = rw is (take_padded threads no_entry found)
 
+    found_fit : length found ≤ threads
+    found_fit = omega (arith, length_filter f (arrivals s), arrivals_fit s g)
+
+    pub split_few : x.n ≤ threads
+    unfolding split_of
+    split_few = rw is found_fit
+
+    pub split_numbers : Numbers (take x.n x.taken) (length (take x.n x.taken))
+    split_numbers = rw split_are (low_numbers found found_fit (all_filtered (λ t. ltb t threads) f (arrivals s) (all_low s g)))
+
     -- the sleeps that end
-    pub ends : (a : LastAnswer) (u : State) → u ≡ with_threads (change (changed_by (End a)) (take x.n (drop 0 x.taken)) s.threads) s
+    pub ends : (a : LastAnswer) (u : State) → u ≡ with_threads (change (changed_by (End a)) (take x.n x.taken) s.threads) s
         → record { state = record { clock = u.clock; threads = u.threads; list = x.left; count = x.count }; n = x.n } ≡ end_flagged a f s
     unfolding end_flagged end_in split_of
     ends a u new =
@@ -76,8 +75,17 @@ module _ (s : State) (g : Sound s) where
             (λ d. rw d (sym (elem_filtered_out f t (arrivals s) d)))
 
   -- threads that are taken out of the list, of whom some join its end
-  module _ (place ts : List ℕ) (n m : ℕ) (h : Taking place ts (n + m) s) (long : length ts ≡ threads) where
-    pub taking_listed : Listed s.list s.count place ts (n + m)
+  module _ (place es ms : List ℕ) (h : Taking place (es ++ ms) (length es + length ms) s) where
+    abbrev ts : List ℕ
+    ts = es ++ ms
+
+    abbrev n : ℕ
+    n = length es + length ms
+
+    whole : take n ts ≡ ts
+    whole = take_all n ts (omega (arith, length-append es ms))
+
+    pub taking_listed : Listed s.list s.count place (es ++ ms) (length es + length ms)
     taking_listed =
         record {
           listing =
@@ -93,44 +101,38 @@ module _ (s : State) (g : Sound s) where
           apart = h.apart;
         }
 
-    pub taking_numbers : Numbers ts (n + m)
-    taking_numbers =
-        record {
-          few = h.few;
-          below = λ k less.
-              let there : length (take (n + m) ts) ≡ n + m = length-take-le (n + m) ts (omega (arith, h.few)) in
-              let x : get_or (take (n + m) ts) k 0 ≡ get_or ts k 0 = get_or-take (n + m) ts k 0 less in
-              listed_below s g (get_or ts k 0) (sym (ap (λ e. elem e (arrivals s)) x) ∙ elem_all (λ t. elem t (arrivals s)) (take (n + m) ts) h.each (get_or (take (n + m) ts) k 0) (elem_get_d (take (n + m) ts) k 0 (omega (arith, there))));
-        }
+    each : all (λ t. elem t (arrivals s)) ts ≡ true
+    each = rw whole at h.each
+
+    low : (us : List ℕ) → ((t : ℕ) → elem t us ≡ true → elem t ts ≡ true) → all (λ t. ltb t threads) us ≡ true
+    low us among = all_elem (λ t. ltb t threads) us (λ t e. lt-ltb t threads (listed_below s g t (elem_all (λ u. elem u (arrivals s)) ts each t (among t e))))
+
+    pub ended_numbers : Numbers es (length es)
+    ended_numbers = low_numbers es (omega (arith, h.few)) (low es (λ t e. in_first t es ms e))
+
+    pub moved_numbers : Numbers ms (length ms)
+    moved_numbers = low_numbers ms (omega (arith, h.few)) (low ms (λ t e. in_second t es ms e))
 
     -- what is left of the list
-    pub taking_counted : length (without (take (n + m) ts) (arrivals s)) + (n + m) ≡ s.count
+    pub taking_counted : length (without (es ++ ms) (arrivals s)) + (length es + length ms) ≡ s.count
     taking_counted = omega (
       arith,
-      length_without (take (n + m) ts) (arrivals s) h.apart h.each (occurs_distinct (arrivals s) (once s g)),
-      length-take-le (n + m) ts (omega (arith, h.few)),
+      length_without ts (arrivals s) (rw whole at h.apart) each (occurs_distinct (arrivals s) (once s g)),
+      length-append es ms,
       g.counted,
     )
 
-    pub takes : (a : LastAnswer) (to : ℕ) (u : State) → u ≡ with_threads (change (changed_by (End a)) (take n (drop 0 ts)) s.threads) s
-        → (v : State) → v ≡ with_threads (change (changed_by (MoveTo to)) (take m (drop n ts)) u.threads) u
-        → (l : List ℕ) → l ≡ pad_to threads no_entry (without (take (n + m) ts) (arrivals s) ++ take m (drop n ts))
-        → record { clock = v.clock; threads = v.threads; list = l; count = s.count - n } ≡ move_sleeps to (take m (drop n ts)) (end_sleeps a (take n ts) s)
+    pub takes : (a : LastAnswer) (to : ℕ) (u : State) → u ≡ with_threads (change (changed_by (End a)) es s.threads) s
+        → (v : State) → v ≡ with_threads (change (changed_by (MoveTo to)) ms u.threads) u
+        → (l : List ℕ) → l ≡ pad_to threads no_entry (without (es ++ ms) (arrivals s) ++ ms)
+        → record { clock = v.clock; threads = v.threads; list = l; count = v.count - length es } ≡ move_sleeps to ms (end_sleeps a es s)
     unfolding end_in move_in
     takes a to u first v next l all =
-        let rs = take n ts in
-        let ms = take m (drop n ts) in
-        let stay = without ms (arrivals (end_sleeps a rs s)) in
-        let gone : stay ≡ without (take (n + m) ts) (arrivals s) =
-        ap (without ms) (arrivals_end present a rs s) ∙ without_append rs ms (arrivals s) ∙ ap (λ us. without us (arrivals s)) (sym (take-add n m ts)) in
+        let stay = without ms (arrivals (end_sleeps a es s)) in
+        let gone : stay ≡ without ts (arrivals s) = ap (without ms) (arrivals_end present a es s) ∙ without_append es ms (arrivals s) in
         let list : l ≡ pad_to threads no_entry (stay ++ ms) = all ∙ ap (λ us. pad_to threads no_entry (us ++ ms)) (sym gone) in
-        let count : s.count - n ≡ length (stay ++ ms) = omega (
-          arith,
-          length-append stay ms,
-          ap length gone,
-          taking_counted,
-          length-take-le m (drop n ts) (omega (arith, h.few, length-drop n ts)),
-        ) in
+        let same : v.count ≡ s.count = ap (λ (x : State). x.count) next ∙ ap (λ (x : State). x.count) first in
+        let count : v.count - length es ≡ length (stay ++ ms) = omega (arith, same, length-append stay ms, ap length gone, taking_counted) in
         λ j. record {
           clock = (ap (λ (x : State). x.clock) next ∙ ap (λ (x : State). x.clock) first) j;
           threads = (ap (λ (x : State). x.threads) next ∙ ap (λ (x : State). change (changed_by (MoveTo to)) ms x.threads) first) j;

@@ -1,15 +1,15 @@
 // Tables: what the kernel keeps, a clock, a record for each thread and the arrival list with its count; their rules and changes. It stands on arrivals.
 #![tactic(auto)]
 
-ghost use Rattle.std.specs.Prelude.{◌≡◌, true, false, ◌+◌, ◌<◌, take, drop};
+ghost use Rattle.std.specs.Prelude.{◌≡◌, true, false, ◌++◌, ◌+◌, ◌≤◌, ◌<◌, length};
 ghost use Rattle.tables.specs.Sizes.{threads};
-ghost use Rattle.tables.specs.Tables.{fresh_thread, stored_deadline, with_sleep, with_last, ended, moved_to, with_priority, asleep_at, expired, thread_of, fresh, change, with_threads, fall_asleep, end_sleeps, move_sleeps, set_priority, tables_ok};
+ghost use Rattle.tables.specs.Tables.{fresh_thread, stored_deadline, with_sleep, with_last, ended, moved_to, with_priority, asleep_at, expired, thread_of, arrivals, fresh, change, with_threads, fall_asleep, end_sleeps, move_sleeps, set_priority, tables_ok};
 ghost use Rattle.tables.specs.Steps.{changed_by, Numbers, Flags, flagged, end_flagged, Taking};
 
 pub mod check;
 
 pub use arrivals::{PROCESSES, THREADS};
-use arrivals::{index_of, relisted, split_by};
+use arrivals::{Split, index_of, relisted, split_by};
 
 pub const WORDS: usize = PROCESSES * State::WORDS_PER_PROCESS;
 
@@ -22,7 +22,7 @@ pub const PROCESS_BYTES: u32 = WORD_BYTES * (State::WORDS_PER_PROCESS as u32);
 pub const MAX_PRIORITY: u8 = 31;
 
 // How a thread's last ended sleep was answered; no other value can be held.
-#[derive(Clone, Copy)]
+#[derive(Clone, Copy, Debug, PartialEq, Eq)]
 pub enum LastAnswer {
     NoneYet,
     Woken,
@@ -32,7 +32,9 @@ pub enum LastAnswer {
 
 // A thread record: running or waiting; the word's address, the waiter's mask, whether it has a deadline and the deadline; the answer of
 // its last ended sleep; and its base priority.
-#[derive(Clone, Copy)]
+// Stays: two flags with values beside them, and a count beside the list: the table rules (specs/Tables.antt, running_ok, deadline_ok and
+// tail_ok) speak of records and tables that break them, and tables_ok is handed such.
+#[derive(Clone, Copy, Debug, PartialEq, Eq)]
 pub struct Thread {
     pub waiting: bool,
     pub uaddr: u32,
@@ -44,7 +46,7 @@ pub struct Thread {
 }
 
 // The tables: a clock in nanoseconds, a record for each thread, and the arrival list with its count.
-#[derive(Clone, Copy)]
+#[derive(Clone, Copy, Debug, PartialEq, Eq)]
 pub struct State {
     pub clock: u64,
     pub threads: [Thread; THREADS],
@@ -53,7 +55,7 @@ pub struct State {
 }
 
 // What happens to a sleeper: its sleep ends with an answer, or it moves to another address.
-#[derive(Clone, Copy)]
+#[derive(Clone, Copy, Debug, PartialEq, Eq)]
 pub enum Change {
     End(LastAnswer),
     MoveTo(u32),
@@ -100,19 +102,11 @@ impl Thread {
         self
     }
 
-    // Another last answer: a field that holds an enum is not stored to, so the record is written anew.
-    fn with_last(self, last: LastAnswer) -> Self
+    fn with_last(mut self, last: LastAnswer) -> Self
         ensures { result ≡ with_last last self }
     {
-        Self {
-            waiting: self.waiting,
-            uaddr: self.uaddr,
-            bitset: self.bitset,
-            timed: self.timed,
-            deadline: self.deadline,
-            last: last,
-            priority: self.priority,
-        }
+        self.last = last;
+        self
     }
 
     fn with_priority(mut self, priority: u8) -> Self
@@ -156,12 +150,12 @@ impl Thread {
     pub fn has_expired(self, now: u64) -> bool
         ensures { result ≡ expired now self }
     {
-        self.waiting & self.timed & (self.deadline <= now)
+        self.waiting && self.timed && self.deadline <= now
     }
 }
 
 // Tables after a change, and how many sleepers it took.
-#[derive(Clone, Copy)]
+#[derive(Clone, Copy, Debug, PartialEq, Eq)]
 pub struct Taken {
     pub state: State,
     pub n: u32,
@@ -175,31 +169,34 @@ impl State {
     // The entry of the arrival list that names no thread.
     pub const NO_ENTRY: u8 = arrivals::NO_ENTRY;
 
+    #[tactic(auto, unfolding(crate::specs::Tables::fresh_in))]
     pub fn fresh() -> Self
         ensures { result ≡ fresh }
     {
-        let t = Thread::fresh();
         Self {
             clock: 0,
-            threads: [t; THREADS],
+            threads: [Thread::fresh(); THREADS],
             list: [Self::NO_ENTRY; THREADS],
             count: 0,
         }
     }
 
-    // The records of n threads of ts, from a place on, changed.
-    fn changed(mut self, ts: [u8; THREADS], from: usize, n: usize, how: Change) -> Self
-        requires { Numbers ts (from + n) }
-        ensures { result ≡ with_threads (change (changed_by how) (take n (drop from ts)) self.threads) self }
+    // The arrival list: the entries that are counted.
+    pub fn arrivals(&self) -> &[u8]
+        requires { self.now.count ≤ threads }
+        ensures { result.now ≡ arrivals self.now }
     {
-        let mut i: usize = 0;
-        while i < n {
-            let e = ts[from + i];
-            let x = index_of(e);
-            let t = self.threads[x];
-            let u = t.changed(how);
-            self.threads[x] = u;
-            i += 1;
+        &self.list[..self.count]
+    }
+
+    // The records of the threads ts changed.
+    fn changed(mut self, ts: &[u8], how: Change) -> Self
+        requires { Numbers ts.now (length ts.now) }
+        ensures { result ≡ with_threads (change (changed_by how) ts.now self.threads) self }
+    {
+        for &t in ts {
+            let x = index_of(t);
+            self.threads[x] = self.threads[x].changed(how);
         }
         self
     }
@@ -209,39 +206,38 @@ impl State {
         requires { tables_ok self ≡ true }
         ensures { result ≡ end_flagged last (flagged flags) self }
     {
-        let list = self.list;
-        let parts = split_by(list, self.count, flags);
-        let n = parts.n as u32;
-        let taken = parts.taken;
-        let mut s = self.changed(taken, 0, parts.n, Change::End(last));
-        let left = parts.left;
-        s.list = left;
-        s.count = parts.count;
-        Taken { state: s, n: n }
+        let Split {
+            left,
+            count,
+            taken,
+            n,
+        } = split_by(self.arrivals(), flags);
+        let mut state = self.changed(&taken[..n], Change::End(last));
+        state.list = left;
+        state.count = count;
+        Taken { state, n: n as u32 }
     }
 
-    // The first n threads of ts end their sleep with the answer, the next m move to the address and to the end of the list; place says
-    // where each thread stands in it. The kernel calls it on tables that keep the rules.
+    // Some threads end their sleep with the answer, others move to the address and to the end of the list; place says where each thread
+    // stands in it. The kernel calls it on tables that keep the rules.
     pub fn take(
         self,
         place: [u8; THREADS],
-        ts: [u8; THREADS],
-        n: usize,
+        ended: &[u8],
         last: LastAnswer,
-        m: usize,
+        moved: &[u8],
         uaddr: u32,
     ) -> Self
-        requires { (tables_ok self ≡ true) × Taking place ts (n + m) self }
-        ensures { result ≡ move_sleeps uaddr (take m (drop n ts)) (end_sleeps last (take n ts) self) }
+        requires { (tables_ok self ≡ true) × Taking place (ended.now ++ moved.now) (length ended.now + length moved.now) self }
+        ensures { result ≡ move_sleeps uaddr moved.now (end_sleeps last ended.now self) }
     {
-        let list = self.list;
-        let count = self.count;
-        let all = relisted(list, count, place, ts, n, m);
-        let rest = self.changed(ts, 0, n, Change::End(last));
-        let mut s = rest.changed(ts, n, m, Change::MoveTo(uaddr));
-        s.list = all;
-        s.count = count - n;
-        s
+        let list = relisted(self.list, self.count, place, ended, moved);
+        let mut state = self
+            .changed(ended, Change::End(last))
+            .changed(moved, Change::MoveTo(uaddr));
+        state.list = list;
+        state.count -= ended.len();
+        state
     }
 
     // A running thread sleeps, and joins the end of the list, where there is room, since it is not there yet. The kernel calls it for a
@@ -257,12 +253,9 @@ impl State {
         requires { (tables_ok self ≡ true) × ((t < threads) × ((thread_of self t).waiting ≡ false)) }
         ensures { result ≡ fall_asleep (asleep_at uaddr bitset timed deadline) t self }
     {
-        let old = self.threads[t];
-        let new = old.asleep_at(uaddr, bitset, timed, deadline);
-        self.threads[t] = new;
-        let n = self.count;
-        self.list[n] = t as u8;
-        self.count = n + 1;
+        self.threads[t] = self.threads[t].asleep_at(uaddr, bitset, timed, deadline);
+        self.list[self.count] = t as u8;
+        self.count += 1;
         self
     }
 
@@ -271,9 +264,7 @@ impl State {
         requires { t < threads }
         ensures { result ≡ set_priority priority t self }
     {
-        let old = self.threads[t];
-        let new = old.with_priority(priority);
-        self.threads[t] = new;
+        self.threads[t] = self.threads[t].with_priority(priority);
         self
     }
 
@@ -281,14 +272,6 @@ impl State {
     pub fn expired(self, now: u64) -> [bool; THREADS]
         ensures { Flags result (λ t. expired now (thread_of self t)) }
     {
-        let mut flags = [false; THREADS];
-        let mut i: usize = 0;
-        while i < THREADS {
-            let t = self.threads[i];
-            let hit = t.has_expired(now);
-            flags[i] = hit;
-            i += 1;
-        }
-        flags
+        self.threads.map(|t| t.has_expired(now))
     }
 }

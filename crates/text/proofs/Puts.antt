@@ -1,13 +1,13 @@
 -- Texts written one behind the other.
-use mathlib.Core.Path.{◌≡◌, refl, ap, sym, ◌∙◌, subst}
-use mathlib.Core.List.{List, [], ◌∷◌, ◌++◌, append_assoc}
+use mathlib.Core.Path.{◌≡◌, refl, ap, ◌∙◌, subst}
+use mathlib.Core.List.{List, [], ◌∷◌, ◌++◌}
 use Prim.Native.Nat.{ℕ, ◌+◌, ◌≤◌}
 use native.Mathlib.Omega.{arith}
 use native.Mathlib.Numerals.{add-one}
-use lib.ListN.{length, set, take, drop, length-append}
-use lib.Seq.{sets, sets-eq, drop-drop}
+use lib.ListN.{length, set, length-append}
+use lib.Seq.{sets}
 use borrow.Rule.Slice.PartMut.{put_mid}
-use Rattle.lists.proofs.Stores.{sets_append}
+use Rattle.lists.proofs.Stores.{sets_append, sets_copied}
 use Rattle.text.specs.Text.{Puts}
 
 -- a text copied over the bytes from k on
@@ -17,8 +17,7 @@ puts_copied text before part k m all room copied =
     record {
       next = refl;
       within = omega arith;
-      bytes = rw (copied, all, drop-drop (length text) k before) (sym (append_assoc (take k before) text (drop (k + length text) before)))
-          ∙ sym (sets-eq text before k room);
+      bytes = sets_copied before text part k m copied all room;
     }
 
 -- a text behind a text

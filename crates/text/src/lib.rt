@@ -1,8 +1,8 @@
 // Text: numbers as lines of text, written into a lent slice. It stands on rules.
 #![tactic(auto)]
 
-ghost use Rattle.std.specs.Prelude.{◌+◌, ◌≤◌, ◌≡◌, pos, ◌+ℤ◌, length};
-ghost use Rattle.text.specs.Text.{word_digits, decimal, count_line, refusal_line, host_line, raise, Spoken, line_room, Puts};
+ghost use Rattle.std.specs.Prelude.{◌+◌, ◌≤◌, length};
+ghost use Rattle.text.specs.Text.{word_digits, decimal, count_line, refusal_line, host_line, Spoken, line_room, Puts};
 
 // The most digits of a number of 64 bits: io::decimal's room.
 const DIGITS: usize = 20;
@@ -18,12 +18,11 @@ const WORD_DIGITS: usize = 10;
 pub const LINE_ROOM: usize = 1 + WORD_DIGITS + 1;
 
 // To a host, "asleep" is this number.
-const ASLEEP: u64 = 2147483647;
-
-// Above every number of 32 bits.
-const RAISE: u64 = 4294967296;
+const ASLEEP: u32 = 2147483647;
 
 // Bytes at a place; the next place.
+// Stays: a writer that holds the slice and the place is no plainer, for put_number and put_refusal promise both (`Puts`) and would make one and
+// take it apart at each call.
 fn put(src: &[u8], out: &mut [u8], k: usize) -> usize
     requires { k + length src.now ≤ length out.old }
     ensures { Puts (length src.now) k src.now out.old result out.new }
@@ -38,8 +37,8 @@ fn put_decimal(v: u32, out: &mut [u8], k: usize) -> usize
     requires { k + word_digits ≤ length out.old }
     ensures { Puts word_digits k (decimal v) out.old result out.new }
 {
-    let mut d = [0u8; DIGITS];
-    let n = io::decimal(v as u64, &mut d);
+    let mut d = [0; DIGITS];
+    let n = io::decimal(u64::from(v), &mut d);
     put(&d[..n], out, k)
 }
 
@@ -62,27 +61,18 @@ pub fn put_refusal(v: u32, out: &mut [u8], k: usize) -> usize
     put_count(v, out, k + 1)
 }
 
-// A number as far above RAISE as it is above 0, which has no sign.
-fn raised(z: i64) -> u64
-    requires { Spoken z }
-    ensures { pos result ≡ z +ℤ pos raise }
-{
-    (z + RAISE as i64) as u64
-}
-
 // The line of a number that a host gets, at a place; the next place. Replays call it where there is room.
 pub fn put_number(z: i64, out: &mut [u8], k: usize) -> usize
     requires { (k + line_room ≤ length out.old) × Spoken z }
     ensures { Puts line_room k (host_line z) out.old result out.new }
 {
-    let u = raised(z);
-    if u < RAISE {
-        let n = RAISE - u;
-        return put_refusal(n as u32, out, k);
+    let n = z.unsigned_abs() as u32;
+    let negative = z < 0;
+    if negative {
+        put_refusal(n, out, k)
+    } else if n == ASLEEP {
+        put(b"asleep\n", out, k)
+    } else {
+        put_count(n, out, k)
     }
-    let n = u - RAISE;
-    if n == ASLEEP {
-        return put(b"asleep\n", out, k);
-    }
-    put_count(n as u32, out, k)
 }

@@ -2,54 +2,54 @@
 // and operations.
 #![tactic(auto)]
 
-ghost use Rattle.std.specs.Prelude.{◌≡◌, cond};
+ghost use Rattle.std.specs.Prelude.{◌≡◌, cond, Ok, Err};
 ghost use Rattle.rules.specs.declared.answer.Errno.TheVariants.{EINVAL};
-ghost use Rattle.rules.specs.declared.answer.Verdict.TheVariants.{Refuse};
 ghost use Rattle.rules.specs.Answers.{◌because◌, plain, first, reason_among};
 ghost use Rattle.rules.specs.Commands.{command_of};
-ghost use Rattle.rules.specs.Calls.{no_thread, bad_argument, argument_rows, bad_address, differs, late, behind_rows, call_rows};
-ghost use Rattle.rules.specs.Events.{priority_rows};
+ghost use Rattle.rules.specs.Calls.{no_thread, argument_rows, bad_address, differs, late, behind_rows, call_rows};
+ghost use Rattle.rules.specs.Events.{store_rows, priority_rows};
 
 use commands::{deadline_of, not_implemented, second_cap, timeout_given, uses_by};
 use operations::undefined_op;
-use rules::answer::{Errno, Reason, Refusal, Verdict};
+use rules::answer::{Errno, Reason, Refusal};
 use rules::event::Call;
 use tables::{MAX_PRIORITY, PROCESS_BYTES, PROCESSES, State, WORD_BYTES};
 
 const MAX_CAP: u32 = 2147483647;
 
 // An error that has no reason beside it.
-fn refused(x: Errno) -> Verdict
-    ensures { result ≡ Refuse (plain x) }
+fn refused(errno: Errno) -> Result<(), Refusal>
+    ensures { result ≡ Err (plain errno) }
 {
-    Verdict::Refuse(Refusal {
-        errno: x,
-        reason: Reason::NoReason,
+    Err(Refusal {
+        errno,
+        reason: None,
     })
 }
 
 // -22, with its reason.
-fn refused_for(reason: Reason) -> Verdict
-    ensures { result ≡ Refuse (EINVAL because reason) }
+fn refused_for(reason: Reason) -> Result<(), Refusal>
+    ensures { result ≡ Err (EINVAL because reason) }
 {
-    Verdict::Refuse(Refusal {
+    Err(Refusal {
         errno: Errno::EINVAL,
-        reason: reason,
+        reason: Some(reason),
     })
 }
 
-// A row of the table, before the rows below it.
-pub fn row(x: Errno, applies: bool, below: Verdict) -> Verdict
-    ensures { result ≡ cond applies (Refuse (plain x)) below }
+// A row of the table: with ? behind it, the rows below answer where it does not apply.
+pub fn row(errno: Errno, applies: bool) -> Result<(), Refusal>
+    ensures { result ≡ cond applies (Err (plain errno)) (Ok tt) }
 {
-    if applies { refused(x) } else { below }
+    if applies { refused(errno) } else { Ok(()) }
 }
 
 // A row for -22, with its reason.
-pub fn invalid(reason: Reason, applies: bool, below: Verdict) -> Verdict
-    ensures { result ≡ cond applies (Refuse (EINVAL because reason)) below }
+// Stays: no one generic function with row, which would need an .into() at each call or a clause that names a trait's ghost member.
+pub fn invalid(reason: Reason, applies: bool) -> Result<(), Refusal>
+    ensures { result ≡ cond applies (Err (EINVAL because reason)) (Ok tt) }
 {
-    if applies { refused_for(reason) } else { below }
+    if applies { refused_for(reason) } else { Ok(()) }
 }
 
 pub fn no_thread(process: u8, index: u8) -> bool
@@ -58,49 +58,34 @@ pub fn no_thread(process: u8, index: u8) -> bool
     (PROCESSES <= process as usize) | (State::THREADS_PER_PROCESS <= index as usize)
 }
 
-// All the rows for -22 at once: most calls pass them.
-fn bad_argument(c: Call) -> bool
-    ensures { result ≡ bad_argument (command_of c.op) c }
-{
-    let u = uses_by(c.op);
-    let cap2 = second_cap(c);
-    (u.cap & (MAX_CAP < c.val))
-        | (u.second & (MAX_CAP < cap2))
-        | (u.mask & (c.val3 == 0))
-        | (c.uaddr % WORD_BYTES != 0)
-        | (u.second & (c.uaddr2 % WORD_BYTES != 0))
-        | (u.moves & (c.uaddr == c.uaddr2))
-}
-
-// A reason, before those of the rows below it.
-fn reason_if(reason: Reason, applies: bool, below: Reason) -> Reason
-    ensures { result ≡ cond applies reason below }
-{
-    if applies { reason } else { below }
-}
-
-// What is wrong with a call's arguments, from the last row for -22 up: the lowest reason that applies.
-pub fn wrong_argument(c: Call) -> Reason
+// What is wrong with a call's arguments: the reason of the first row for -22 that applies.
+#[tactic(auto, unfolding(rules::specs::Calls::argument_rows))]
+pub fn wrong_argument(c: Call) -> Option<Reason>
     ensures { result ≡ reason_among (argument_rows (command_of c.op) c) }
 {
     let u = uses_by(c.op);
-    let cap2 = second_cap(c);
-    let r = reason_if(
-        Reason::SameAddress,
-        u.moves & (c.uaddr == c.uaddr2),
-        Reason::NoReason,
-    );
-    let r = reason_if(
-        Reason::Uaddr2Unaligned,
-        u.second & (c.uaddr2 % WORD_BYTES != 0),
-        r,
-    );
-    let r = reason_if(Reason::UaddrUnaligned, c.uaddr % WORD_BYTES != 0, r);
-    let r = reason_if(Reason::MaskZero, u.mask & (c.val3 == 0), r);
-    let r = reason_if(Reason::SecondCap, u.second & (MAX_CAP < cap2), r);
-    reason_if(Reason::FirstCap, u.cap & (MAX_CAP < c.val), r)
+    if u.cap & (MAX_CAP < c.val) {
+        return Some(Reason::FirstCap);
+    }
+    if u.second & (MAX_CAP < second_cap(c)) {
+        return Some(Reason::SecondCap);
+    }
+    if u.mask & (c.val3 == 0) {
+        return Some(Reason::MaskZero);
+    }
+    if c.uaddr % WORD_BYTES != 0 {
+        return Some(Reason::UaddrUnaligned);
+    }
+    if u.second & (c.uaddr2 % WORD_BYTES != 0) {
+        return Some(Reason::Uaddr2Unaligned);
+    }
+    if u.moves & (c.uaddr == c.uaddr2) {
+        return Some(Reason::SameAddress);
+    }
+    None
 }
 
+#[tactic(auto, unfolding(rules::specs::Calls::bad_address))]
 fn bad_address(c: Call) -> bool
     ensures { result ≡ bad_address (command_of c.op) c }
 {
@@ -120,56 +105,48 @@ fn late(c: Call, now: u64) -> bool
     ensures { result ≡ late (command_of c.op) c now }
 {
     let u = uses_by(c.op);
-    let given = timeout_given(c);
-    let due = deadline_of(c, u.mask, now);
-    u.deadline & given & (due <= now)
+    u.deadline & timeout_given(c) & (deadline_of(c, u.mask, now) <= now)
 }
 
 // The verdict by the rows behind those for -22.
-fn verdict_behind(c: Call, now: u64, word: u32) -> Verdict
+fn verdict_behind(c: Call, now: u64, word: u32) -> Result<(), Refusal>
     ensures { result ≡ first (behind_rows (command_of c.op) c now word) }
 {
-    if bad_address(c) {
-        return refused(Errno::EFAULT);
-    }
     let u = uses_by(c.op);
-    let undefined = undefined_op(c.val3);
-    if u.second & !u.moves & undefined {
-        return refused(Errno::ENOSYS);
-    }
-    if differs(c, word) {
-        return refused(Errno::EAGAIN);
-    }
-    if late(c, now) {
-        return refused(Errno::ETIMEDOUT);
-    }
-    Verdict::Pass
+    row(Errno::EFAULT, bad_address(c))?;
+    row(Errno::ENOSYS, u.second & !u.moves & undefined_op(c.val3))?;
+    row(Errno::EAGAIN, differs(c, word))?;
+    row(Errno::ETIMEDOUT, late(c, now))
 }
 
 // The verdict on a call whose memory and tables are sound, by the table's rows from the third on: the first that applies answers, and no
 // later one is tested.
-pub fn verdict_on(c: Call, waits: bool, now: u64, word: u32) -> Verdict
+#[tactic(auto, using(crate::proofs::Table::arguments_behind), unfolding(rules::specs::Calls::rows_in))]
+pub fn verdict_on(c: Call, waits: bool, now: u64, word: u32) -> Result<(), Refusal>
     ensures { result ≡ first (call_rows c waits now word) }
 {
-    if no_thread(c.process, c.index) {
-        return refused(Errno::ESRCH);
-    }
-    if waits {
-        return refused(Errno::EBUSY);
-    }
-    if not_implemented(c.op) {
-        return refused(Errno::ENOSYS);
-    }
-    if bad_argument(c) {
-        return refused_for(wrong_argument(c));
+    row(Errno::ESRCH, no_thread(c.process, c.index))?;
+    row(Errno::EBUSY, waits)?;
+    row(Errno::ENOSYS, not_implemented(c.op))?;
+    if let Some(reason) = wrong_argument(c) {
+        return refused_for(reason);
     }
     verdict_behind(c, now, word)
 }
 
+// The verdict on a store, memory and tables being sound.
+pub fn verdict_on_store(process: u8, address: u32) -> Result<(), Refusal>
+    ensures { result ≡ first (store_rows process address) }
+{
+    row(Errno::ESRCH, PROCESSES <= process as usize)?;
+    invalid(Reason::UaddrUnaligned, address % WORD_BYTES != 0)?;
+    row(Errno::EFAULT, PROCESS_BYTES <= address)
+}
+
 // The verdict on a priority that is to be set, memory and tables being sound.
-pub fn verdict_on_priority(process: u8, index: u8, priority: u8) -> Verdict
+pub fn verdict_on_priority(process: u8, index: u8, priority: u8) -> Result<(), Refusal>
     ensures { result ≡ first (priority_rows process index priority) }
 {
-    let v = invalid(Reason::PriorityHigh, MAX_PRIORITY < priority, Verdict::Pass);
-    row(Errno::ESRCH, no_thread(process, index), v)
+    row(Errno::ESRCH, no_thread(process, index))?;
+    invalid(Reason::PriorityHigh, MAX_PRIORITY < priority)
 }

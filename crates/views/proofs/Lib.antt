@@ -1,4 +1,5 @@
 pub mod Ranking
 pub mod Ordering
+pub mod Wanting
 pub mod Viewing
 pub mod Theorems

@@ -1,26 +1,23 @@
--- The bytes of the fresh tables: no entry in the list, and zeros.
-use mathlib.Core.Path.{◌≡◌, refl, sym, ap, ◌∙◌}
-use mathlib.Core.Bool.{cond, ◌&&◌}
-use mathlib.Core.List.{flatten}
-use Prim.Native.Nat.{ℕ, ◌<◌}
-use lib.ListN.{length, get_or}
-use lib.Dec.{leb, ltb}
-use Rattle.lists.specs.Lists.{tabulate}
-use Rattle.lists.proofs.Tabulate.{get_d_tabulate}
-use Rattle.tables.specs.Sizes.{no_entry}
+-- The bytes of the fresh tables: zeros, with no entry in the list.
+use mathlib.Core.Path.{◌≡◌, refl, ap, ◌∙◌}
+use mathlib.Core.List.{List, flatten}
+use Prim.Native.Nat.{ℕ}
+use borrow.Rule.Slice.PartMut.{put_mid}
+use lib.ListN.{length, replicate, take, drop}
+use Rattle.tables.specs.Sizes.{threads, no_entry}
 use Rattle.tables.specs.Tables.{fresh_in, fresh}
-use Rattle.layout.specs.Layout.{tables_bytes, tables_size, list_at, waiting_at}
+use Rattle.layout.specs.Layout.{tables_bytes, tables_size, list_at}
 
-abbrev laid : ℕ → ℕ
-laid i = cond (leb list_at i && ltb i waiting_at) no_entry 0
+-- zeros everywhere, and then no entry in the list
+abbrev blank : ℕ → List ℕ → List ℕ
+blank n zeros = put_mid list_at threads zeros (replicate n no_entry)
 
-all_laid : tables_bytes fresh ≡ tabulate tables_size laid
+laid : blank threads (replicate tables_size 0) ≡ tables_bytes fresh
 unfolding tables_bytes fresh_in flatten
-all_laid = refl
+laid = refl
 
-pub fresh_size : length (tables_bytes fresh) ≡ tables_size
-unfolding tables_bytes fresh_in flatten
-fresh_size = refl
-
-pub fresh_byte : (i : ℕ) → i < tables_size → laid i ≡ get_or (tables_bytes fresh) i 0
-fresh_byte i low = sym (ap (λ l. get_or l i 0) all_laid ∙ get_d_tabulate tables_size laid i 0 low)
+pub laid_down : (b zeros none : List ℕ) → length b ≡ tables_size → zeros ≡ replicate (length b) 0
+    → none ≡ replicate (length (take threads (drop list_at zeros))) no_entry → put_mid list_at threads zeros none ≡ tables_bytes fresh
+laid_down b zeros none long zero entry =
+    let zero = zero ∙ ap (λ n. replicate n 0) long in
+    ap (put_mid list_at threads zeros) entry ∙ ap (λ l. blank (length (take threads (drop list_at l))) l) zero ∙ laid

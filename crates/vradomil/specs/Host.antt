@@ -1,13 +1,14 @@
 -- What a C host gets: the rules' answers as numbers, and every byte of tables and words afterwards.
-use Rattle.std.specs.Prelude.{◌≡◌, cond, List, [], ◌∷◌, ◌++◌, ℕ, ◌+◌, ◌*◌, ◌^◌, ◌≤◌, ◌<◌, ℤ, pos, neg_ℤ, length, take, drop, eqb}
+use Rattle.std.specs.Prelude.{◌≡◌, cond, List, [], ◌∷◌, ◌++◌, ℕ, ◌+◌, ◌*◌, ◌^◌, ◌≤◌, ◌<◌, ℤ, pos, neg_ℤ, length, take, drop, eqb, Option, None, Result, Ok, Err}
 use Rattle.tables.specs.declared.State.{State}
 use Rattle.rules.specs.declared.event.Call.{Call}
 use Rattle.rules.specs.declared.event.Event.{Event}
 use Rattle.rules.specs.declared.event.Event.TheVariants.{Call as CallEvent, Store, Clock, Interrupt, Query, SetPriority}
 use Rattle.rules.specs.declared.answer.Answer.{Answer}
 use Rattle.rules.specs.declared.answer.Answer.TheVariants.{Asleep, Count, Refused, Waiting}
-use Rattle.rules.specs.declared.answer.Verdict.TheVariants.{Pass}
 use Rattle.rules.specs.declared.answer.Errno.TheVariants.{EBADF}
+use Rattle.rules.specs.declared.answer.Reason.{Reason}
+use Rattle.rules.specs.declared.answer.Refusal.{Refusal}
 use Rattle.rules.specs.declared.answer.Panel.{Panel}
 use Rattle.tables.specs.Sizes.{word_limit, time_limit}
 use Rattle.tables.specs.Tables.{World, world, fresh, arrivals}
@@ -17,10 +18,9 @@ use Rattle.rules.specs.Calls.{first_rows}
 use Rattle.rules.specs.Events.{step, panel}
 use Rattle.layout.specs.Layout.{tables_at, tables_bytes, tables_size, state_at, words_at, words_bytes, memory_size}
 use Rattle.layout.specs.Check.{Held}
-use Rattle.plans.specs.declared.Plan.{Plan}
+use Rattle.plans.specs.declared.Take.{Take}
 use Rattle.plans.specs.Ready.{Granted}
 use Rattle.plans.specs.Plans.{written}
-use Rattle.vradomil.specs.declared.buffers.Lent.{Lent}
 
 -- the tables and the words that the bytes stand for
 abbrev pub seen : List ℕ → List ℕ → World
@@ -121,12 +121,40 @@ pub record Initialised (b : List ℕ) (r : ℤ) (after : List ℕ) : Type 0 wher
 
 -- What the functions inside tell each other.
 
+-- the number of an answer: a count, or a refusal
+abbrev pub number_of : Result ℕ Refusal → ℤ
+number_of (Ok n) = host_number (Count n)
+number_of (Err x) = host_number (Refused x)
+
+-- the reason of an answer, where it is a refusal that has one
+abbrev pub reason_in : Result ℕ Refusal → Option Reason
+reason_in (Ok n) = None
+reason_in (Err x) = x.reason
+
+-- What the function of an event answers, from which the entry points make a number and a report: the number that they ensure, and the reason.
+pub record TablesTold (e : Event) (tables words : List ℕ) (r : Result ℕ Refusal) (after : List ℕ) : Type 0 where
+  pub changes : ChangesTables e tables words [] (number_of r) after []
+  pub reason : reason_in r ≡ reason_of (step e (seen tables words)).answer
+
+pub record WordsTold (e : Event) (tables words : List ℕ) (r : Result ℕ Refusal) (after : List ℕ) : Type 0 where
+  pub changes : ChangesWords e tables words [] (number_of r) after []
+  pub reason : reason_in r ≡ reason_of (step e (seen tables words)).answer
+
+pub record CallTold (c : Call) (b m : List ℕ) (r : Result ℕ Refusal) (bAfter mAfter : List ℕ) : Type 0 where
+  pub changes : Calls c b m [] (number_of r) bAfter mAfter []
+  pub reason : reason_in r ≡ reason_of (step (CallEvent c) (seen b m)).answer
+
+-- whether rows refuse, without what they let through
+abbrev pub verdict_of : {A : Type 0} → Result A Refusal → Result (Unit {0}) Refusal
+verdict_of (Ok x) = Ok tt
+verdict_of (Err x) = Err x
+
 -- the first two rows of every event but the panel query, and what it means to pass them
-pub record BuffersJudged (tables words : List ℕ) (l : Lent) : Type 0 where
-  pub verdict : l.verdict ≡ first (first_rows (seen tables words))
-  pub held : l.verdict ≡ Pass → Held tables
-  pub long : l.verdict ≡ Pass → length words ≡ memory_size
-  pub places : l.verdict ≡ Pass → Places l.place (arrivals (state_at tables))
+pub record BuffersJudged (tables words : List ℕ) (l : Result (List ℕ) Refusal) : Type 0 where
+  pub verdict : verdict_of l ≡ first (first_rows (seen tables words))
+  pub held : verdict_of l ≡ Ok tt → Held tables
+  pub long : verdict_of l ≡ Ok tt → length words ≡ memory_size
+  pub places : (place : List ℕ) → l ≡ Ok place → Places place (arrivals (state_at tables))
 
 -- a call on tables that keep the rules, which no row refuses
 pub record Passed (c : Call) (tables words place : List ℕ) : Type 0 where
@@ -136,7 +164,7 @@ pub record Passed (c : Call) (tables words place : List ℕ) : Type 0 where
   pub places : Places place (arrivals (state_at tables))
 
 -- the word that a plan writes, on the words' bytes
-abbrev pub PutWord : Call → Plan → List ℕ → List ℕ → Type 0
+abbrev pub PutWord : Call → Take → List ℕ → List ℕ → Type 0
 PutWord c d before after = (s : State) → after ≡ words_bytes (written c d (world s (words_at before))).words
 
 -- an answer and the tables that go with it, as a number and bytes

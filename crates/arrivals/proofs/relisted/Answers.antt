@@ -1,91 +1,90 @@
-use mathlib.Core.Path.{◌≡◌, sym, ap, ◌∙◌}
-use Prim.Native.Nat.{◌+◌, ◌≤◌}
-use native.Mathlib.Omega.{arith}
-use borrow.Author.Rules.{rules}
-use lib.ListN.{length, take, drop, get_or, length-drop}
-use lib.Seq.{length-take-le}
-use Rattle.arrivals.specs.Sizes.{threads}
-use Rattle.arrivals.proofs.TakingOut.{out_start, out_low, out_within, out_next, out_counted, out_joined}
+use Rattle.std.proofs.Common.{◌≡◌, ◌∙◌, ◌++◌, ◌+◌, ◌≤◌, ◌<◌, ℕ, List, ap, refl, arith, rules, length, take, get_or, length-append}
+use Rattle.std.specs.Iterator.Adapters.{chain_steps}
+use Rattle.std.proofs.iter.Yields.{fronts}
+use Rattle.std.proofs.lemmas.List.{get_or_default}
+use Rattle.std.proofs.lemmas.Iterator.{YieldsList, YieldsList-from_slice}
+use Rattle.std.proofs.lemmas.Iterator.Consumers.{YieldsList-at, YieldsList-from_chain, YieldsList-turn, YieldsList-end}
+use lib.Seq.{take_all}
+use Rattle.lists.specs.Lists.{pad_to, without}
+use Rattle.arrivals.specs.Sizes.{threads, no_entry}
+use Rattle.arrivals.proofs.TakingOut.{out_start, out_low, out_within, out_next, out_joined}
 use Rattle.arrivals.proofs.relisted.Goals as goal
-use Rattle.arrivals.proofs.relisted.Goals.{After-index_of-x, After-loop-i, Start}
+use Rattle.arrivals.proofs.relisted.Goals.{Start, After-into_iter-t-iterator, After-index_of}
 
-long : (c : Start) → length c.args.list ≡ threads
-long c = search rules
+-- the threads of the one list, and then those of the other
+road : (c : After-into_iter-t-iterator) → YieldsList (chain_steps fronts fronts) (λ y. y.now) c.into_iter-t-iterator.result (c.args.ended.now ++ c.args.moved.now)
+road c =
+    let chain = c.chain-t-items.ensures in
+    YieldsList-at c.into_iter-t-iterator.ensures.into_iter_gives
+    (YieldsList-from_chain (YieldsList-at chain.first (YieldsList-from_slice c.args.ended.now cc))
+    (YieldsList-from_slice {s = c.chain-t-items.result.b} c.args.moved.now chain.second.0) chain.first_done chain.second_done)
 
-size : (c : Start) → length c.args.ts ≡ threads
-size c = search rules
+pub loop-t-init : goal.loop-t-init
+loop-t-init c = record {
+  can_next = search rules;
+  finite = search rules;
+  taken = out_start c.args.list c.args.count c.args.place (c.args.ended.now ++ c.args.moved.now) (length c.args.ended.now + length c.args.moved.now) c.requires (search rules);
+}
 
-pub loop-i-init : goal.loop-i-init
-loop-i-init c = out_start c.args.list c.args.count c.args.place c.args.ts (c.args.n + c.args.m) c.requires (long c)
+module _ (c : After-index_of) (way : YieldsList (chain_steps fronts fronts) (λ y. y.now) c.into_iter-t-iterator.result (c.args.ended.now ++ c.args.moved.now)) where
+  abbrev ts : List ℕ
+  ts = c.args.ended.now ++ c.args.moved.now
 
-pub overflow_add-n : goal.overflow_add-n
-overflow_add-n c = omega (arith, c.before.requires.few)
+  abbrev n : ℕ
+  n = length c.args.ended.now + length c.args.moved.now
 
-pub bounds-ts-i : goal.bounds-ts-i
-bounds-ts-i c = omega (arith, c.before.before.requires.few)
+  size : n ≤ length ts
+  size = omega (arith, length-append c.args.ended.now c.args.moved.now)
 
-pub bounds-at-x : goal.bounds-at-x
-bounds-at-x c = omega (arith, c.index_of-x.ensures)
+  turn : (length c.loop-t.yielded < length ts) × (c.in-Some.field-0.now ≡ get_or ts (length c.loop-t.yielded) c.in-Some.field-0.now)
+  turn = YieldsList-turn way c.loop-t.yielded c.loop-t.t-iterator c.loop-t.yielded_by c.next.result c.next.new.self c.in-Some.field-0 c.in-Some.is c.next.ensures.steps
 
--- the place that is read is that of the thread
-place_read : (c : After-index_of-x)
-    → get_or c.before.before.loop-i.at c.index_of-x.result 0 ≡ get_or c.before.before.loop-i.at (get_or c.before.before.before.args.ts c.before.before.loop-i.i 0) 0
-place_read c =
-    let k = c.before.before.loop-i in
-    let g = c.before.before.before in
-    let a = g.args in
-    let low = out_low a.list a.count a.place a.ts (a.n + a.m) g.requires (size g) k.left k.at k.i k.invariant c.before.loop-i-test.true in
-    let index : c.index_of-x.result ≡ get_or a.ts k.i 0 = c.index_of-x.ensures ∙ omega arith in
-    ap (λ j. get_or k.at j 0) index
+  on : length c.loop-t.yielded < n
+  on = omega (arith, turn.0, length-append c.args.ended.now c.args.moved.now)
 
-pub out_at-shorter-requires : goal.out_at-shorter-requires
-out_at-shorter-requires c =
-    let k = c.before.before.loop-i in
-    let g = c.before.before.before in
-    let a = g.args in
-    let some = out_within a.list a.count a.place a.ts (a.n + a.m) g.requires (size g) k.left k.at k.i k.invariant c.before.loop-i-test.true in
-    (omega (arith, place_read c, some.0), omega (arith, place_read c, some.1))
+  -- the place that is read is that of the thread
+  place_read : get_or c.loop-t.place c.index_of.result 0 ≡ get_or c.loop-t.place (get_or ts (length c.loop-t.yielded) 0) 0
+  place_read =
+      let k = c.loop-t in
+      let a = c.args in
+      let low = out_low a.list a.count a.place ts n c.requires size k.list k.place (length k.yielded) k.invariant.taken on in
+      let item : c.in-Some.field-0.now ≡ get_or ts (length k.yielded) 0 = turn.1 ∙ get_or_default ts (length k.yielded) c.in-Some.field-0.now 0 turn.0 in
+      let index : c.index_of.result ≡ get_or ts (length k.yielded) 0 = c.index_of.ensures ∙ omega (arith, item) in
+      ap (λ j. get_or k.place j 0) index
 
-pub overflow_add-i : goal.overflow_add-i
-overflow_add-i c = omega (arith, c.before.before.before.before.before.requires.few)
+pub out_at-requires : goal.out_at-requires
+out_at-requires c =
+    let k = c.loop-t in
+    let a = c.args in
+    let h = (goal.at.out_at-requires c).After-index_of in
+    let way = road (goal.at.out_at-requires c).After-into_iter-t-iterator in
+    let some = out_within a.list a.count a.place (ts h way) (n h way) c.requires (size h way) k.list k.place (length k.yielded) k.invariant.taken (on h way) in
+    let read = place_read h way in
+    (omega (arith, read, some.0), omega (arith, read, some.1))
 
-pub loop-i-smaller : goal.loop-i-smaller
-loop-i-smaller c = omega arith
-
-pub loop-i-preserved : goal.loop-i-preserved
-loop-i-preserved c =
-    let x = c.before.before in
-    let k = x.before.before.loop-i in
-    let g = x.before.before.before in
-    let a = g.args in
-    out_next a.list a.count a.place a.ts (a.n + a.m) g.requires (size g) k.left k.at k.i k.invariant x.before.loop-i-test.true
-    (get_or k.at x.index_of-x.result 0) c.before.out_at-shorter.result c.moved_up-up.result (place_read x) c.before.out_at-shorter.ensures c.moved_up-up.ensures
-
-pub overflow_add-n-2 : goal.overflow_add-n-2
-overflow_add-n-2 c = omega (arith, c.before.before.requires.few)
-
-all_counted : (c : After-loop-i) → c.before.before.args.n + c.before.before.args.m ≤ c.before.before.args.count
-all_counted c =
-    let k = c.before.loop-i in
-    let g = c.before.before in
-    let a = g.args in
-    omega (arith, out_counted a.list a.count a.place a.ts (a.n + a.m) g.requires k.left k.at k.i k.invariant c.loop-i-test.false)
-
-pub overflow_sub-count : goal.overflow_sub-count
-overflow_sub-count c = all_counted c
-
-pub joined-requires : goal.joined-requires
-joined-requires c =
-    let g = c.before.before in
-    (omega (arith, all_counted c, g.requires.listing.few), omega (arith, g.requires.few))
+pub loop-t-preserved : goal.loop-t-preserved
+loop-t-preserved c =
+    let k = c.loop-t in
+    let a = c.args in
+    let h = (goal.at.loop-t-preserved c).After-index_of in
+    let way = road (goal.at.loop-t-preserved c).After-into_iter-t-iterator in
+    record {
+      can_next = search rules;
+      finite = search rules;
+      taken = rw length-append
+          (out_next a.list a.count a.place (ts h way) (n h way) c.requires (size h way) k.list k.place (length k.yielded) k.invariant.taken (on h way)
+          (get_or k.place c.index_of.result 0) c.out_at.new.list c.moved_up.new.place (place_read h way) c.out_at.ensures c.moved_up.ensures);
+    }
 
 pub returns : goal.returns
 returns c =
-    let e = c.before in
-    let k = e.before.loop-i in
-    let g = e.before.before in
-    let a = g.args in
-    let ms = take a.m (drop a.n a.ts) in
-    let some : a.m ≡ length ms = sym (length-take-le a.m (drop a.n a.ts) (omega (arith, length-drop a.n a.ts, size g, g.requires.few))) in
+    let k = c.loop-t in
+    let a = c.args in
+    let ts = a.ended.now ++ a.moved.now in
+    let n = length a.ended.now + length a.moved.now in
+    let long : n ≡ length ts = omega (arith, length-append a.ended.now a.moved.now) in
+    let all = YieldsList-end (road (goal.at.returns c).After-into_iter-t-iterator) k.yielded k.t-iterator k.yielded_by c.next.result c.next.new.self c.in-None.is c.next.ensures.steps in
+    let whole : take n ts ≡ ts = take_all n ts (omega arith) in
     c.joined.ensures
-    ∙ out_joined a.list a.count a.place a.ts (a.n + a.m) g.requires k.left k.at k.i k.invariant e.loop-i-test.false ms a.m some
+    ∙ out_joined a.list a.count a.place ts n c.requires k.list k.place (length k.yielded) k.invariant.taken (omega (arith, all.1)) a.moved.now (length a.moved.now) refl
+    ∙ ap (λ us. pad_to threads no_entry (without us (take a.count a.list) ++ a.moved.now)) whole

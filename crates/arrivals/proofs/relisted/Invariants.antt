@@ -1,9 +1,10 @@
-use Prim.Native.Nat.{◌+◌, ◌-◌}
+use Rattle.std.proofs.Common.{◌+◌, ◌++◌, length}
 use Rattle.arrivals.proofs.TakingOut.{TakingOut}
 use Rattle.arrivals.proofs.relisted.Given as goal
 
-abbrev pub invariant-loop-i : goal.invariant-loop-i
-invariant-loop-i l = TakingOut l.initial.left l.count l.ts (l.n + l.m) l.left l.at l.i
-
-abbrev pub decreases-loop-i : goal.decreases-loop-i
-decreases-loop-i l = l.n + l.m - l.i
+abbrev pub invariant-loop-t : goal.invariant-loop-t
+invariant-loop-t l = record {
+  can_next : (goal.iterator-loop-t).can_next l.t-iterator;
+  finite : (goal.iterator-loop-t).is_finite l.t-iterator;
+  taken : TakingOut l.initial.list l.count (l.ended ++ l.moved) (length l.ended + length l.moved) l.list l.place (length l.yielded);
+}

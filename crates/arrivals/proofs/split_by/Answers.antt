@@ -1,83 +1,57 @@
-use mathlib.Core.Path.{◌≡◌, ap, ◌∙◌}
-use Prim.Native.Nat.{◌≤◌, ◌<◌}
-use native.Mathlib.Omega.{arith}
-use borrow.Author.Rules.{rules}
-use lib.ListN.{length, take, get_or}
-use lib.Seq.{length-take-le}
+use Rattle.std.proofs.Common.{◌≡◌, ◌∙◌, ◌<◌, ap, sym, arith, length, take, get_or}
+use lib.Seq.{length-take-le, take_all}
 use Rattle.lists.proofs.Loops.{take_next}
 use Rattle.arrivals.specs.Sizes.{threads}
 use Rattle.arrivals.specs.Arrivals.{flagged, split_of}
-use Rattle.arrivals.proofs.Splitting.{splitting_start, splitting_next, splitting_all, part_few}
+use Rattle.arrivals.proofs.Splitting.{splitting_start, splitting_taken, splitting_left, splitting_all, part_few}
 use Rattle.arrivals.proofs.split_by.Goals as goal
-use Rattle.arrivals.proofs.split_by.Goals.{In-loop-i, Start}
+use Rattle.arrivals.proofs.split_by.Goals.{After-index_of, then-flags-index_of, else-flags-index_of}
 
-long : (c : Start) → length c.args.list ≡ threads
-long c = search rules
-
-pub loop-i-init : goal.loop-i-init
-loop-i-init c = (omega arith, splitting_start (flagged c.args.flags))
+pub loop-e-init : goal.loop-e-init
+loop-e-init c = splitting_start (flagged c.args.flags)
 
 -- an entry is left to look at, so that both arrays have room
-module _ (c : In-loop-i) where
-  room : c.before.loop-i.i < threads
-  room = omega (arith, c.before.before.requires.few)
+module _ (c : After-index_of) where
+  size : length (take c.loop-e.e-index c.args.list.now) ≡ c.loop-e.e-index
+  size = length-take-le c.loop-e.e-index c.args.list.now (omega arith)
 
-  size : length (take c.before.loop-i.i c.before.before.args.list) ≡ c.before.loop-i.i
-  size = length-take-le c.before.loop-i.i c.before.before.args.list (omega (arith, long c.before.before, room))
+  room : length (take c.loop-e.e-index c.args.list.now) < threads
+  room = omega (arith, size, c.requires.few)
 
-  taken_few : c.before.loop-i.n ≤ c.before.loop-i.i
-  taken_few = omega (arith, size, part_few _ _ _ _ c.before.loop-i.invariant.1.out)
+  taken_few : c.loop-e.split.n < threads
+  taken_few = omega (arith, room, part_few _ _ _ _ c.loop-e.invariant.out)
 
-  left_few : c.before.loop-i.w ≤ c.before.loop-i.i
-  left_few = omega (arith, size, part_few _ _ _ _ c.before.loop-i.invariant.1.kept)
+  left_few : c.loop-e.split.count < threads
+  left_few = omega (arith, room, part_few _ _ _ _ c.loop-e.invariant.kept)
 
-pub bounds-list-i : goal.bounds-list-i
-bounds-list-i c = omega (arith, c.before.before.requires.few)
+pub bounds-split-split : goal.bounds-split-split
+bounds-split-split c = taken_few (goal.at.bounds-split-split c).After-index_of
 
-pub bounds-flags-index_of : goal.bounds-flags-index_of
-bounds-flags-index_of c = omega (arith, c.index_of.ensures)
+pub overflow_add-split : goal.overflow_add-split
+overflow_add-split c = omega (arith, taken_few (goal.at.overflow_add-split c).After-index_of)
 
-pub bounds-taken-n : goal.bounds-taken-n
-bounds-taken-n c = let k = c.before.before in omega (arith, room k, taken_few k)
+pub bounds-split-split-else-flags-index_of : goal.bounds-split-split-else-flags-index_of
+bounds-split-split-else-flags-index_of c = left_few (goal.at.bounds-split-split-else-flags-index_of c).After-index_of
 
-pub bounds-left-w : goal.bounds-left-w
-bounds-left-w c = let k = c.before.before.before in omega (arith, room k, left_few k)
+pub overflow_add-split-else-flags-index_of : goal.overflow_add-split-else-flags-index_of
+overflow_add-split-else-flags-index_of c = omega (arith, left_few (goal.at.overflow_add-split-else-flags-index_of c).After-index_of)
 
-pub overflow_add-n : goal.overflow_add-n
-overflow_add-n c = let k = c.before.before.before.before in omega (arith, room k, taken_few k, c.one_if-n.ensures.1)
-
-pub overflow_add-w : goal.overflow_add-w
-overflow_add-w c = let k = c.before.before.before.before.before in omega (arith, room k, left_few k, c.one_if-w.ensures.1)
-
-pub overflow_add-i : goal.overflow_add-i
-overflow_add-i c = let k = c.before.before.before.before.before in omega (arith, room k)
-
-pub loop-i-smaller : goal.loop-i-smaller
-loop-i-smaller c = omega arith
-
-pub loop-i-preserved : goal.loop-i-preserved
-loop-i-preserved c =
-    let h = c.before.before.before.before in
-    let k = h.before in
-    let at = k.before.loop-i in
-    let g = k.before.before in
-    let list = g.args.list in
-    let flags = g.args.flags in
-    let i = at.i in
-    let x = get_or list i 0 in
-    let low = g.requires.below i k.loop-i-test.true in
-    let here : h.index_of.result ≡ x = h.index_of.ensures ∙ omega arith in
-    let next = splitting_next (flagged flags) (take i list) at.left at.taken at.w at.n at.invariant.1 (omega (arith, size k, room k)) x
-    (flagged flags h.index_of.result) (ap (flagged flags) here) in
-    rw (c.one_if-w.ensures.0, c.before.one_if-n.ensures.0, c.before.before.either-in-loop-i.ensures, c.before.before.before.either.ensures) (
-      omega (arith, k.loop-i-test.true),
-      rw (take_next list i 0 (omega (arith, long g, room k))) next,
-    )
+pub loop-e-preserved : goal.loop-e-preserved
+loop-e-preserved c =
+    let list = c.args.list.now in
+    let s = c.loop-e.split in
+    let h = (goal.at.loop-e-preserved c).After-index_of in
+    let x = get_or list c.loop-e.e-index 0 in
+    let low = c.requires.below c.loop-e.e-index c.loop-e-test.true in
+    let here : c.index_of.result ≡ x = c.index_of.ensures ∙ omega arith in
+    let f = flagged c.args.flags in
+    rw (take_next list c.loop-e.e-index 0 (omega arith)) (elim c.if-flags-index_of.branch [
+      | then-flags-index_of w ↦ rw w.split-is (splitting_taken f (take c.loop-e.e-index list) s.left s.taken s.count s.n c.loop-e.invariant (room h) x (ap f (sym here) ∙ w.if-flags-index_of.true))
+      | else-flags-index_of w ↦ rw w.split-is (splitting_left f (take c.loop-e.e-index list) s.left s.taken s.count s.n c.loop-e.invariant (room h) x (ap f (sym here) ∙ w.if-flags-index_of.false))
+    ])
 
 pub returns : goal.returns
 returns c =
-    let at = c.before.loop-i in
-    let g = c.before.before in
-    let i : at.i ≡ g.args.count = omega (arith, at.invariant.0) in
-    splitting_all (flagged g.args.flags) (take at.i g.args.list) at.left at.taken at.w at.n at.invariant.1
-    ∙ ap (λ m. split_of (flagged g.args.flags) (take m g.args.list)) i
+    let s = c.loop-e.split in
+    let f = flagged c.args.flags in
+    splitting_all f (take c.loop-e.e-index c.args.list.now) s.left s.taken s.count s.n c.loop-e.invariant ∙ ap (split_of f) (take_all c.loop-e.e-index c.args.list.now (omega arith))

@@ -33,10 +33,10 @@ pub take_out-requires : goal.take_out-requires
 take_out-requires c =
     let g = c.args in
     let b = g.b.now in
-    (c.requires.0.size, (first b c.requires.0 g.t g.place c.requires.1, omega (arith, within b c.requires.0 g.t g.place c.requires.1, (lined b c.requires.0 g.t g.place c.requires.1).few)))
+    (first b c.requires.0 g.t g.place c.requires.1, omega (arith, within b c.requires.0 g.t g.place c.requires.1, (lined b c.requires.0 g.t g.place c.requires.1).few))
 
 pub end_sleep-requires : goal.end_sleep-requires
-end_sleep-requires c = (c.take_out.auto.b ∙ c.requires.0.size, low c.args.b.now c.requires.0 c.args.t c.args.place c.requires.1)
+end_sleep-requires c = low c.args.b.now c.requires.0 c.args.t c.args.place c.requires.1
 
 pub overflow_sub-count : goal.overflow_sub-count
 overflow_sub-count c =

@@ -26,7 +26,7 @@ pub overflow_add-b : goal.overflow_add-b
 overflow_add-b c = omega (arith, low c.args.b.now c.args.t _ c.requires.0 c.requires.1 c.u64_at-n.ensures.0)
 
 pub bounds-b-n : goal.bounds-b-n
-bounds-b-n c = omega (arith, low c.args.b.now c.args.t _ c.requires.0 c.requires.1 c.u64_at-n.ensures.0, c.put_sleep.auto.b, c.requires.0.size)
+bounds-b-n c = omega (arith, low c.args.b.now c.args.t _ c.requires.0 c.requires.1 c.u64_at-n.ensures.0)
 
 pub overflow_add-n : goal.overflow_add-n
 overflow_add-n c = omega (arith, low c.args.b.now c.args.t _ c.requires.0 c.requires.1 c.u64_at-n.ensures.0)

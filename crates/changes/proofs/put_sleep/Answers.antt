@@ -20,8 +20,8 @@ returns c =
     λ s w is.
     let b = c.args.b.now in
     let i = c.args.i in
-    let waiting = c.flag_byte-asleep.ensures ∙ flag_fits c.args.waiting in
-    let timed = c.flag_byte-due.ensures ∙ flag_fits c.args.timed in
+    let waiting = c.from.ensures ∙ flag_fits c.args.waiting in
+    let timed = c.from-2.ensures ∙ flag_fits c.args.timed in
     c.put_u64.ensures
     ∙ ap (λ x. sets x (deadline_at + time_bytes * i) (bytes time_bytes c.args.deadline))
     (c.put_u32-2.ensures
@@ -29,4 +29,4 @@ returns c =
     (c.put_u32.ensures
     ∙ ap (λ x. sets x (uaddr_at + word_bytes * i) (bytes word_bytes c.args.uaddr))
     (λ j. set (set b (waiting_at + i) (waiting j)) (timed_at + i) (timed j))))
-    ∙ sleep_put s w i c.requires.1 c.args.waiting c.args.uaddr c.args.bitset c.args.timed c.args.deadline b is
+    ∙ sleep_put s w i c.requires c.args.waiting c.args.uaddr c.args.bitset c.args.timed c.args.deadline b is

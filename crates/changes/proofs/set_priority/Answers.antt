@@ -12,4 +12,4 @@ returns c =
     let b = c.args.b.now in
     let n = c.args.priority in
     let byte : n ≡ n % 256 = omega arith in
-    ap (set b (priority_at + c.args.t)) byte ∙ priority_put s w c.args.t c.requires.1 n b is
+    ap (set b (priority_at + c.args.t)) byte ∙ priority_put s w c.args.t c.requires n b is

@@ -1,11 +1,7 @@
-use Prim.Native.Nat.{◌-◌}
 use Rattle.tables.specs.Sizes.{threads}
 use Rattle.layout.specs.Layout.{list_at}
 use Rattle.changes.proofs.Shifting.{Shifting}
 use Rattle.changes.proofs.take_out.Given as goal
 
 abbrev pub invariant-loop-i : goal.invariant-loop-i
-invariant-loop-i l = Shifting l.initial.b list_at threads l.place l.b l.k l.i
-
-abbrev pub decreases-loop-i : goal.decreases-loop-i
-decreases-loop-i l = threads - l.i
+invariant-loop-i l = Shifting l.initial.b list_at threads l.place l.b l.i

@@ -1,8 +1,9 @@
-use Rattle.std.proofs.Common.{◌-◌, ◌≤◌, ◌≡◌, true, length, cond, suc}
+use Rattle.std.proofs.Common.{◌-◌, ◌≡◌, length}
 use Rattle.cuts.proofs.fed.Given as goal
 
-abbrev pub invariant-loop-g : goal.invariant-loop-g
-invariant-loop-g l = l.g.more ≡ true → (l.g.events ≤ l.g.at) × (l.g.at ≤ length l.piece)
+abbrev pub invariant-loop-event : goal.invariant-loop-event
+invariant-loop-event l = length l.reader.held ≡ 31
 
-abbrev pub decreases-loop-g : goal.decreases-loop-g
-decreases-loop-g l = cond l.g.more (suc (length l.piece - l.g.at)) 0
+-- an event moves the place forward
+abbrev pub decreases-loop-event : goal.decreases-loop-event
+decreases-loop-event l = length l.piece - l.place

@@ -1,10 +1,12 @@
-use Rattle.std.proofs.Common.{◌+◌, ◌/◌, sym, ap, ◌∙◌}
-use Rattle.std.proofs.lemmas.List.Edits.{sets}
+use Rattle.std.proofs.Common.{◌+◌, ◌-◌, arith}
+use Rattle.std.specs.Int.{w64}
 use Rattle.lists.specs.LittleEndian.{bytes}
-use Rattle.numbers.proofs.Numbers.{halves_stored}
+use Rattle.lists.proofs.Endian.{to_le}
+use Rattle.lists.proofs.Stores.{sets_copied}
 use Rattle.numbers.proofs.put_u64.Goals as goal
 
 pub returns : goal.returns
 returns c =
-    c.put_u32-2.ensures ∙ ap (λ l. sets l (c.args.k + 4) (bytes 4 (c.args.v / 4294967296))) c.put_u32.ensures
-    ∙ sym (halves_stored c.args.b.now c.args.k c.args.v)
+    let k = c.args.k in
+    sets_copied c.args.b.now (bytes 8 c.args.v) c.copy_from_slice.new.self k (k + 8 - k)
+    (cc (to_le w64 c.args.v)) (omega arith) c.requires

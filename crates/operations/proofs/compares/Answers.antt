@@ -5,15 +5,15 @@ use Rattle.rules.specs.Signed.{turned}
 use Rattle.rules.specs.WakeOp.{compare_by, compares}
 use Rattle.rules.proofs.WakeOp.{compares_by}
 use Rattle.operations.proofs.compares.Goals as goal
-use Rattle.operations.proofs.compares.Goals.{After-cmp_field-cmp}
+use Rattle.operations.proofs.compares.Goals.{After-cmp_field}
 
 -- the comparison of the words that were turned
-compared : (c : After-cmp_field-cmp) → let s = c in
-    compare_by eqb ltb c.cmp_field-cmp.result c.turned-y.result c.turned-x.result ≡ compares s.args.v s.args.old
+compared : (c : After-cmp_field) → let s = c in
+    compare_by eqb ltb c.cmp_field.result c.turned-y.result c.turned-x.result ≡ compares s.args.v s.args.old
 compared c =
     let s = c in
-    compares_by s.args.v s.args.old c.cmp_field-cmp.result c.turned-x.result c.turned-y.result s.ranges.old.fits
-    c.cmp_field-cmp.ensures
+    compares_by s.args.v s.args.old c.cmp_field.result c.turned-x.result c.turned-y.result s.ranges.old.fits
+    c.cmp_field.ensures
     (c.turned-x.ensures ∙ ap (turned word_bits) c.cmp_arg.ensures)
     c.turned-y.ensures
 
@@ -42,5 +42,5 @@ unfolding compare_by
 returns-in_default c =
     let y = c.turned-y.result in
     let x = c.turned-x.result in
-    let last : not (ltb y x) ≡ compare_by eqb ltb c.cmp_field-cmp.result y x = search rules in
+    let last : not (ltb y x) ≡ compare_by eqb ltb c.cmp_field.result y x = search rules in
     sym (not_ltb y x) ∙ (last ∙ compared c.before)

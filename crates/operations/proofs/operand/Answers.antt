@@ -1,6 +1,5 @@
 use Rattle.std.proofs.Common.{◌≡◌, ◌*◌, ◌%◌, ◌^◌, ◌<◌, ℤ, ap, ◌∙◌, mod-eq_of_lt, one-mul, arith, le-leb}
 use lib.Pow.{pow-lt}
-use borrow.Author.Tests.{lt-leb}
 use Rattle.tables.specs.Sizes.{word_bits, word_limit}
 use Rattle.rules.specs.Signed.{modulo}
 use Rattle.rules.specs.WakeOp.{op_field, op_arg, operand}
@@ -13,15 +12,7 @@ power z =
     let h : modulo word_limit z % word_bits < word_bits = omega arith in
     rw (one-mul (2 ^ (modulo word_limit z % word_bits))) (mod-eq_of_lt (pow-lt h) ∙ ap (2 ^◌) (shift_of_word z))
 
-pub returns-then-op-ge-OPARG_SHIFT : goal.returns-then-op-ge-OPARG_SHIFT
+pub returns-then-op_field-ge-OPARG_SHIFT : goal.returns-then-op_field-ge-OPARG_SHIFT
 unfolding operand
-returns-then-op-ge-OPARG_SHIFT c =
-    let f = c.op_field-op.ensures in
-    let a = c.op_arg-arg.ensures in
-    rw (le-leb 8 (op_field c.args.v) (rw f at c.if-op-ge-OPARG_SHIFT.true), a) (power (op_arg c.args.v))
-
-pub returns-else-op-ge-OPARG_SHIFT : goal.returns-else-op-ge-OPARG_SHIFT
-unfolding operand
-returns-else-op-ge-OPARG_SHIFT c =
-    let f = c.op_field-op.ensures in
-    rw (lt-leb 8 (op_field c.args.v) (rw f at c.if-op-ge-OPARG_SHIFT.false)) c.op_arg-arg.ensures
+returns-then-op_field-ge-OPARG_SHIFT c =
+    rw (le-leb 8 (op_field c.args.v) (rw c.op_field.ensures at c.if-op_field-ge-OPARG_SHIFT.true), c.op_arg-arg.ensures) (power (op_arg c.args.v))

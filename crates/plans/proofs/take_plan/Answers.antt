@@ -1,73 +1,51 @@
 use mathlib.Core.Path.{◌≡◌, sym, ap, subst, ◌∙◌}
-use mathlib.Core.Bool.{true, false, not, cond, ◌&&◌}
+use mathlib.Core.Bool.{Bool, true, false, not, cond, ◌&&◌}
 use Prim.Native.Nat.{ℕ, ◌+◌}
+use borrow.Author.Rules.{rules}
 use lib.ListN.{length}
+use Rattle.std.specs.Prelude.{Option, Some, None, MatchOption, IsSomeAnd}
+use Rattle.std.specs.Bool.{then_some}
 use Rattle.tables.specs.Sizes.{threads_per_process}
-use Rattle.rules.specs.declared.event.Call.{Call}
 use Rattle.rules.specs.declared.event.Uses.{Uses}
 use Rattle.rules.specs.Commands.{command_of, uses}
 use Rattle.rules.specs.WakeOp.{new_word, compares}
 use Rattle.rules.specs.Calls.{old_word}
-use Rattle.plans.specs.declared.Plan.{Plan}
-use Rattle.plans.specs.declared.Takes.{Takes}
 use Rattle.plans.specs.declared.Operated.{Operated}
+use Rattle.plans.specs.declared.Plan.TheVariants.{Take as TakePlan}
 use Rattle.plans.specs.Plans.{Planned}
 use Rattle.plans.proofs.Planned.{planned_take}
-use borrow.Author.Rules.{rules}
 use Rattle.plans.proofs.take_plan.Goals as goal
-use Rattle.plans.proofs.take_plan.Goals.{After-operate-o, After-taken_by-t, After-uses_by-u}
+use Rattle.plans.proofs.take_plan.Goals.{After-taken_by-t}
 
 long : (c : After-taken_by-t) → length c.taken_by-t.result.taken ≡ threads_per_process
 long c = search rules
 
-abbrev plan : Uses → Takes → ℕ → ℕ → Plan
-plan u t word count =
-    record {
-      sleeps = false;
-      bitset = 0;
-      timed = false;
-      deadline = 0;
-      taken = t.taken;
-      released = t.released;
-      moved = t.moved;
-      writes = u.second && not u.moves;
-      word = word;
-      count = count;
-    }
-
 -- what the operation of a WAKE_OP makes of the word
-module _ (c : After-operate-o) where
-  abbrev back : After-uses_by-u
-  back = c.before.before.before
+holds_is : (acts : Bool) (x : Operated) (o : Option Operated) (h : Bool) → o ≡ then_some acts x → MatchOption o (h ≡ false) (λ y. h ≡ y.holds) → acts ≡ true → x.holds ≡ h
+holds_is true x o h e is a = sym (rw e at is)
+holds_is false x o h e is a = cc
 
-  abbrev call : Call
-  call = back.before.args.c
+some_is : (v : Option ℕ) (n : ℕ) → IsSomeAnd v (λ r. r ≡ n) → v ≡ Some n
+some_is (Some r) n e = ap Some e
+some_is None n e = absurd e
 
-  abbrev own : Uses
-  own = uses (command_of call.op)
-
-  acted : own.second ≡ true → own.moves ≡ false → c.operate-o.result ≡ record { holds = compares call.val3 back.before.args.old; word = new_word call.val3 back.before.args.old }
-  acted d m =
-      c.operate-o.ensures
-      ∙ ap (λ (x : Uses). cond (x.second && not x.moves) (record { holds = compares call.val3 back.before.args.old; word = new_word call.val3 back.before.args.old }) (record { holds = false; word = 0 }))
-      back.uses_by-u.ensures
-      ∙ rw (d, m)
+word_is : (acts : Bool) (x : Operated) (o : Option Operated) (v : Option ℕ) → o ≡ then_some acts x → MatchOption o (v ≡ None) (λ y. IsSomeAnd v (λ r. r ≡ y.word)) → v ≡ then_some acts x.word
+word_is true x o v e is = some_is v x.word (rw e at is)
+word_is false x o v e is = rw e at is
 
 pub returns : goal.returns
 returns c =
     λ w granted go views word.
-    let n = c.before.before in
-    let t = n.before in
-    let o = t.before in
-    let u = o in
-    let g = u in
-    let k = command_of g.args.c.op in
-    let holds : (uses k).second ≡ true → (uses k).moves ≡ false → compares g.args.c.val3 (old_word g.args.c w) ≡ o.operate-o.result.holds =
-    λ d m. sym (ap (λ (x : Operated). x.holds) (acted o d m) ∙ ap (compares g.args.c.val3) (word d)) in
-    let new : (uses k).second ≡ true → (uses k).moves ≡ false → o.operate-o.result.word ≡ new_word g.args.c.val3 (old_word g.args.c w) =
-    λ d m. ap (λ (x : Operated). x.word) (acted o d m) ∙ ap (new_word g.args.c.val3) (word d) in
-    let counts = n.only_if-counted.ensures.0 ∙ ap (λ (x : Uses). cond x.compare t.taken_by-t.result.moved 0) u.uses_by-u.ensures in
-    let whole = planned_take g.args.c w granted go t.taken_by-t.result t.taken_by-t.ensures.few (t.taken_by-t.ensures.takes w granted.ready.tables views holds) (long t)
-    o.operate-o.result.word _ new (ap (t.taken_by-t.result.released +◌) counts) in
-    subst (λ (x : Uses). Planned g.args.c w (plan x t.taken_by-t.result o.operate-o.result.word (t.taken_by-t.result.released + n.only_if-counted.result)))
-    (sym u.uses_by-u.ensures) whole
+    let a = c.args.c in
+    let own = uses (command_of a.op) in
+    let acts = own.second && not own.moves in
+    let x : Operated = record { holds = compares a.val3 c.args.old; word = new_word a.val3 c.args.old } in
+    let t = c.taken_by-t.result in
+    let made : c.operate-operated.result ≡ then_some acts x = c.operate-operated.ensures ∙ ap (λ (u : Uses). then_some (u.second && not u.moves) x) c.uses_by-u.ensures in
+    let holds : own.second ≡ true → own.moves ≡ false → compares a.val3 (old_word a w) ≡ c.is_some_and-holds.result =
+    λ d m. sym (ap (compares a.val3) (word d)) ∙ holds_is acts x c.operate-operated.result c.is_some_and-holds.result made (search rules) (rw (d, m)) in
+    let counts = ap (t.released +◌) (c.either-counted.ensures ∙ ap (λ (u : Uses). cond u.compare t.moved 0) c.uses_by-u.ensures) in
+    let whole = planned_take a w granted go t c.taken_by-t.ensures.few (c.taken_by-t.ensures.takes w granted.ready.tables views holds) (long (goal.at.returns c).After-taken_by-t)
+    x.word (t.released + c.either-counted.result) (λ d m. ap (new_word a.val3) (word d)) counts in
+    subst (λ v. Planned a w (TakePlan (record { taken = t.taken; released = t.released; moved = t.moved; word = v; count = t.released + c.either-counted.result })))
+    (sym (word_is acts x c.operate-operated.result c.map.result made (search rules))) whole

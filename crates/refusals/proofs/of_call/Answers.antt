@@ -1,19 +1,16 @@
-use mathlib.Core.Path.{ap, ◌∙◌}
+use mathlib.Core.Path.{sym, ◌∙◌}
+use Rattle.rules.specs.declared.event.Event.TheVariants.{Call as CallEvent}
 use Rattle.tables.specs.Tables.{world}
-use Rattle.rules.specs.declared.answer.Verdict.TheVariants.{Refuse}
-use Rattle.rules.specs.Answers.{by_rows}
 use Rattle.rules.specs.Calls.{first_rows}
-use Rattle.refusals.proofs.Read.{verdict_is}
+use Rattle.rules.specs.Events.{own_rows, refusals}
+use Rattle.rules.proofs.Rows.{passed_before}
+use Rattle.refusals.proofs.Read.{own_verdict}
 use Rattle.refusals.proofs.of_call.Goals as goal
 
 pub returns : goal.returns
+unfolding refusals
 returns c =
-    let v = c in
-    let w = v in
-    let i = w in
-    let t = i in
-    let g = t.args in
-    let ws = g.words.now in
-    c.tested.ensures
-    ∙ ap (by_rows Refuse (first_rows (world g.s ws))) (rw (v.verdict_on-v.ensures, w.word_at-word.ensures))
-    ∙ verdict_is g.c g.s ws t.thread_index-t.result i.word_index-i.result t.thread_index-t.ensures i.word_index-i.ensures
+    let w = world c.args.s c.args.words.now in
+    let passed = passed_before (first_rows w) (own_rows (CallEvent c.args.c) w) (sym c.in_ok-tested.ensures) in
+    rw (c.verdict_on.ensures, c.word_at-word.ensures)
+    (own_verdict c.args.c c.args.s c.args.words.now _ _ c.thread_index.ensures c.word_index.ensures ∙ sym passed)

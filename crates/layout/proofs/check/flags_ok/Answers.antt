@@ -1,8 +1,9 @@
 use mathlib.Core.Path.{◌≡◌, refl, sym, ap, ◌∙◌}
-use mathlib.Core.Bool.{Bool, true, false, cond, ◌&&◌}
+use mathlib.Core.Bool.{Bool, true, false, ◌&&◌}
 use Prim.Native.Nat.{◌+◌}
 use native.Mathlib.Omega.{arith}
 use lib.Dec.{eqb}
+use Rattle.std.specs.Int.{from_bool}
 use Rattle.lists.specs.Lists.{bit, count_below}
 use Rattle.lists.proofs.Tests.{bit_le}
 use Rattle.lists.proofs.Count.{count_next, tested_start, tested_next, tested_all, count_below_le}
@@ -15,14 +16,14 @@ pub loop-i-init : goal.loop-i-init
 unfolding count_below
 loop-i-init c = record { tested = tested_start threads _; counted = refl }
 
-as_bit : (t : Bool) → cond t 1 0 ≡ bit t
+as_bit : (t : Bool) → from_bool t ≡ bit t
 as_bit true = refl
 as_bit false = refl
 
 pub overflow_add-n : goal.overflow_add-n
 overflow_add-n c =
     let w = waits c.args.b.now in
-    omega (arith, count_below_le c.loop-i.i w, c.either-n.ensures ∙ as_bit (w c.loop-i.i), bit_le (w c.loop-i.i))
+    omega (arith, count_below_le c.loop-i.i w, c.from-n.ensures ∙ as_bit (w c.loop-i.i), bit_le (w c.loop-i.i))
 
 pub loop-i-preserved : goal.loop-i-preserved
 loop-i-preserved c =
@@ -30,18 +31,13 @@ loop-i-preserved c =
     let w = waits c.args.b.now in
     record {
       tested = tested_next threads (fits c.args.b.now c.args.place) k.ok _ k.i k.invariant.tested (omega arith) refl;
-      counted = (λ j. k.invariant.counted j + (c.either-n.ensures ∙ as_bit (w k.i)) j) ∙ sym (count_next k.i w);
+      counted = (λ j. k.invariant.counted j + (c.from-n.ensures ∙ as_bit (w k.i)) j) ∙ sym (count_next k.i w);
     }
-
-pub overflow_cast-result : goal.overflow_cast-result
-overflow_cast-result c =
-    let k = c.loop-i in
-    omega (arith, k.invariant.counted, count_below_le k.i (waits c.args.b.now), k.invariant.tested.within)
 
 pub returns : goal.returns
 returns c =
     let k = c.loop-i in
     let b = c.args.b.now in
     let end : k.i ≡ threads = omega (arith, k.invariant.tested.within) in
-    let number = k.invariant.counted ∙ ap (λ m. count_below m (waits b)) end in
+    let number = c.from.ensures ∙ k.invariant.counted ∙ ap (λ m. count_below m (waits b)) end in
     (λ j. tested_all threads (fits b c.args.place) k.ok k.i k.invariant.tested (omega arith) j && eqb (number j) c.args.count)

@@ -1,7 +1,7 @@
 use mathlib.Core.Path.{◌≡◌}
 use mathlib.Core.Bool.{Bool, ◌&&◌}
 use mathlib.Core.List.{List}
-use Prim.Native.Nat.{ℕ, ◌-◌}
+use Prim.Native.Nat.{ℕ}
 use Rattle.lists.specs.Lists.{count_below}
 use Rattle.lists.proofs.Count.{Tested}
 use Rattle.tables.specs.Sizes.{threads}
@@ -17,6 +17,3 @@ pub record Going (b place : List ℕ) (ok : Bool) (n i : ℕ) : Type 0 where
 
 abbrev pub invariant-loop-i : goal.invariant-loop-i
 invariant-loop-i l = Going l.b l.place l.ok l.n l.i
-
-abbrev pub decreases-loop-i : goal.decreases-loop-i
-decreases-loop-i l = threads - l.i

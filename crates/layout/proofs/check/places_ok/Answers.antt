@@ -20,8 +20,8 @@ loop-i-preserved c =
     let a = c.u32_at-uaddr.result in
     let m = c.u32_at-bitset.result in
     let good = beq (not (eqb m 0)) w in
-    gathered_next threads (place_fits b) o.ok good o.stray c.if_runs-s.result o.all a o.i o.invariant (omega arith)
-    (ap (λ s. gathered good s a) c.if_runs-s.ensures ∙ gathered_one w a m ∙ (λ j. place_ok w (c.u32_at-uaddr.ensures.0 j) (c.u32_at-bitset.ensures.0 j)))
+    gathered_next threads (place_fits b) o.ok good o.stray c.either-stray.result o.all a o.i o.invariant (omega arith)
+    (ap (λ s. gathered good s a) c.either-stray.ensures ∙ gathered_one w a m ∙ (λ j. place_ok w (c.u32_at-uaddr.ensures.0 j) (c.u32_at-bitset.ensures.0 j)))
 
 pub returns : goal.returns
 returns c =

@@ -1,4 +1,3 @@
-use Prim.Native.Nat.{◌-◌}
 use Rattle.lists.proofs.Count.{Tested}
 use Rattle.tables.specs.Sizes.{threads}
 use Rattle.layout.specs.Check.{place_fits}
@@ -7,6 +6,3 @@ use Rattle.layout.proofs.check.places_ok.Given as goal
 
 abbrev pub invariant-loop-i : goal.invariant-loop-i
 invariant-loop-i l = Tested threads (place_fits l.b) (gathered l.ok l.stray l.all) l.i
-
-abbrev pub decreases-loop-i : goal.decreases-loop-i
-decreases-loop-i l = threads - l.i

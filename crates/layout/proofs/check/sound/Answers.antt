@@ -1,48 +1,60 @@
-use mathlib.Core.Path.{refl, sym, ap, subst, ◌∙◌}
-use mathlib.Core.Bool.{false, ◌&&◌}
-use Prim.Native.Nat.{ℕ}
+use mathlib.Core.Path.{◌≡◌, sym, ap, subst, ◌∙◌}
+use mathlib.Core.Bool.{◌&&◌}
+use mathlib.Core.List.{List}
+use Prim.Native.Nat.{ℕ, ◌+◌, ◌-◌}
 use native.Mathlib.Omega.{arith}
-use lib.ListN.{take, drop}
+use lib.ListN.{length, take, drop}
 use lib.Dec.{eqb}
+use Rattle.std.specs.Prelude.{Some, None}
 use Rattle.lists.specs.Lists.{all, every_below, count_below}
-use Rattle.lists.proofs.Tests.{clash}
 use Rattle.tables.specs.Sizes.{threads, no_entry}
 use Rattle.arrivals.specs.Arrivals.{PlacedIn}
-use Rattle.layout.specs.Layout.{list_at, state_at}
-use Rattle.layout.specs.Check.{flags_fit, agrees, waits, time_fits}
-use Rattle.layout.proofs.Checks.{wrong_size, wrong_count, told}
+use Rattle.layout.specs.Layout.{list_at, state_at, tables_size}
+use Rattle.layout.specs.Check.{flags_fit, agrees, waits, time_fits, Checked}
+use Rattle.layout.proofs.Listing.{listed_front}
+use Rattle.layout.proofs.Checks.{refused, wrong_size, wrong_count, wrong_entry, told}
 use Rattle.layout.proofs.check.sound.Goals as goal
 
-pub returns-then-b-ne-TABLES_SIZE : goal.returns-then-b-ne-TABLES_SIZE
-returns-then-b-ne-TABLES_SIZE c =
-    record {
-      answer = sym (wrong_size c.args.b.now c.if-b-ne-TABLES_SIZE.true);
-      held = λ e. clash false e refl;
-      places = λ e. clash false e refl;
-    }
+pub returns-in_err-b : goal.returns-in_err-b
+returns-in_err-b c = subst (Checked c.args.b.now) (sym c.from_residual.ensures) (refused c.args.b.now (wrong_size c.args.b.now c.in_err-b.ensures.cases))
 
 pub returns-then-count-gt-THREADS : goal.returns-then-count-gt-THREADS
 unfolding state_at
 returns-then-count-gt-THREADS c =
-    let b = c.args.b.now in
-    record {
-      answer = sym (wrong_count b c.if-b-ne-TABLES_SIZE.false (omega (arith, c.u64_at-count.ensures.0)));
-      held = λ e. clash false e refl;
-      places = λ e. clash false e refl;
-    }
+    let b = c.in_ok-b.b.now in
+    let same : b ≡ c.args.b.now = c.in_ok-b.ensures.cases.same in
+    let size : length b ≡ tables_size = ap length same ∙ c.in_ok-b.ensures.cases.long in
+    subst (λ (l : List ℕ). Checked l None) same (refused b (wrong_count b size (omega (arith, c.u64_at-count.ensures.0))))
+
+pub returns-in_err-place : goal.returns-in_err-place
+unfolding state_at
+returns-in_err-place c =
+    let b = c.in_ok-b.b.now in
+    let same : b ≡ c.args.b.now = c.in_ok-b.ensures.cases.same in
+    let size : length b ≡ tables_size = ap length same ∙ c.in_ok-b.ensures.cases.long in
+    let n = c.u64_at-count.result in
+    let front = listed_front b n c.if-count-gt-THREADS.false (list_at + n - list_at) (omega arith) in
+    let list = front ∙ ap (λ m. take m (take threads (drop list_at b))) c.u64_at-count.ensures.0 in
+    subst (λ (l : List ℕ). Checked l c.from_residual-in_err-place.result) same (subst (Checked b) (sym c.from_residual-in_err-place.ensures)
+    (refused b (wrong_entry b size (subst (λ (l : List ℕ). PlacedIn l None) list c.in_err-place.ensures))))
 
 pub returns : goal.returns
 unfolding state_at
 returns c =
-    let b = c.args.b.now in
-    let list = take threads (drop list_at b) in
-    let found = c.listed-found.result in
+    let b = c.in_ok-b.b.now in
+    let same : b ≡ c.args.b.now = c.in_ok-b.ensures.cases.same in
+    let size : length b ≡ tables_size = ap length same ∙ c.in_ok-b.ensures.cases.long in
+    let n = c.u64_at-count.result in
+    let place = c.in_ok-place.place in
     let count = c.u64_at-count.ensures.0 in
-    told b c.if-b-ne-TABLES_SIZE.false found.low c.tail_ok-tail.result c.places_ok-places.result c.times_ok-times.result c.flags_ok-flags.result found.place
+    let stored = take threads (drop list_at b) in
+    let front = listed_front b n c.if-count-gt-THREADS.false (list_at + n - list_at) (omega arith) ∙ ap (λ m. take m stored) count in
+    subst (λ (l : List ℕ). Checked l c.then_some.result) same (subst (Checked b) (sym c.then_some.ensures)
+    (told b size c.tail_ok-tail.result c.places_ok-places.result c.times_ok-times.result c.flags_ok-flags.result place
     (omega (arith, count, c.if-count-gt-THREADS.false))
-    (subst (λ (m : ℕ). PlacedIn (take m list) found.low found.place) count c.listed-found.ensures)
-    (c.tail_ok-tail.ensures ∙ ap (λ m. all (λ e. eqb e no_entry) (drop m list)) count)
+    (subst (λ (l : List ℕ). PlacedIn l (Some place)) front c.in_ok-place.ensures)
+    (c.tail_ok-tail.ensures ∙ ap (λ m. all (λ e. eqb e no_entry) (drop m stored)) count)
     c.places_ok-places.ensures
     (c.times_ok-times.ensures ∙ ap (λ m. every_below threads (time_fits m b)) c.u64_at-clock.ensures.0)
-    (c.flags_ok-flags.ensures ∙ ap (λ m. every_below threads (λ i. flags_fit b i && agrees found.place b i) && eqb (count_below threads (waits b)) m) count)
-    c.u64_at-count.ensures.1
+    (c.flags_ok-flags.ensures ∙ ap (λ m. every_below threads (λ i. flags_fit b i && agrees place b i) && eqb (count_below threads (waits b)) m) count)
+    c.u64_at-count.ensures.1))

@@ -2,8 +2,8 @@ use mathlib.Core.Path.{◌≡◌, ◌∙◌}
 use Prim.Native.Nat.{◌+◌, ◌*◌, ◌/◌, ◌%◌}
 use native.Mathlib.Omega.{arith}
 use Rattle.lists.proofs.Count.{tested_start, tested_next, tested_all}
-use Rattle.numbers.proofs.Numbers.{two_halves}
-use Rattle.tables.specs.Sizes.{threads, word_limit}
+use Rattle.lists.proofs.LittleEndian.{number_split}
+use Rattle.tables.specs.Sizes.{threads, word_bytes, word_limit}
 use Rattle.layout.specs.Check.{time_ok, time_fits}
 use Rattle.layout.specs.Layout.{thread_at, time_bytes, deadline_at}
 use Rattle.layout.proofs.check.times_ok.Goals as goal
@@ -19,9 +19,9 @@ loop-i-preserved c =
     let r = thread_at b i in
     let at : time % word_limit + word_limit * (time / word_limit) ≡ time = omega arith in
     let due : c.u32_at-dlow.result + word_limit * c.u32_at-dhigh.result ≡ r.deadline =
-    omega (arith, two_halves b (deadline_at + time_bytes * i) (omega (arith, c.requires)), c.u32_at-dlow.ensures.0, c.u32_at-dhigh.ensures.0) in
-    tested_next threads (time_fits time b) c.loop-i.ok c.time_ok-good.result i c.loop-i.invariant (omega arith)
-    (c.time_ok-good.ensures ∙ (λ j. time_ok (at j) r.timed (due j)))
+    omega (arith, number_split word_bytes word_bytes (deadline_at + time_bytes * i) b (omega arith), c.u32_at-dlow.ensures.0, c.u32_at-dhigh.ensures.0) in
+    tested_next threads (time_fits time b) c.loop-i.ok c.time_ok-ok.result i c.loop-i.invariant (omega arith)
+    (c.time_ok-ok.ensures ∙ (λ j. time_ok (at j) r.timed (due j)))
 
 pub returns : goal.returns
 returns c =

@@ -1,4 +1,3 @@
-use Prim.Native.Nat.{◌-◌}
 use Rattle.lists.proofs.Count.{Tested}
 use Rattle.tables.specs.Sizes.{threads}
 use Rattle.layout.specs.Check.{time_fits}
@@ -6,6 +5,3 @@ use Rattle.layout.proofs.check.times_ok.Given as goal
 
 abbrev pub invariant-loop-i : goal.invariant-loop-i
 invariant-loop-i l = Tested threads (time_fits l.time l.b) l.ok l.i
-
-abbrev pub decreases-loop-i : goal.decreases-loop-i
-decreases-loop-i l = threads - l.i

@@ -1,27 +1,40 @@
-use native.Mathlib.Omega.{arith}
-use Rattle.tables.specs.Steps.{Numbers, flagged}
-use Rattle.tables.proofs.Sound.{tables_sound}
-use Rattle.tables.proofs.Stored.{fewer_numbers, list_numbers, split_numbers, ends}
+use Rattle.std.proofs.Common.{◌≡◌, ◌∙◌, ◌≤◌, ap, sym, arith, rules, length}
+use lib.Seq.{length-take-le}
+use Rattle.tables.specs.Tables.{arrivals}
+use Rattle.tables.specs.Steps.{flagged, split_of}
+use Rattle.tables.proofs.Sound.{tables_sound, few}
+use Rattle.tables.proofs.Stored.{list_numbers, split_few, split_numbers, ends}
 use Rattle.tables.proofs.State.end_flagged.Goals as goal
-use Rattle.tables.proofs.State.end_flagged.Goals.{After-split_by-parts}
+use Rattle.tables.proofs.State.end_flagged.Goals.{After-split_by-count}
 
-pub split_by-parts-requires : goal.split_by-parts-requires
-split_by-parts-requires c = let g = c in list_numbers g.args.self (tables_sound g.args.self g.requires)
+pub arrivals-requires : goal.arrivals-requires
+arrivals-requires c = few c.args.self (tables_sound c.args.self c.requires)
 
-numbers : (c : After-split_by-parts) → Numbers c.split_by-parts.result.taken c.split_by-parts.result.n
-numbers c =
-    let g = c in
-    split_numbers g.args.self (tables_sound g.args.self g.requires) (flagged g.args.flags) c.split_by-parts.result c.split_by-parts.ensures
+pub split_by-count-requires : goal.split_by-count-requires
+split_by-count-requires c = rw c.arrivals.ensures (list_numbers c.args.self (tables_sound c.args.self c.requires))
 
-pub overflow_cast-n : goal.overflow_cast-n
-overflow_cast-n c = omega (arith, (numbers c.before).few)
+module _ (c : After-split_by-count) where
+  split_is : c.split_by-count.result ≡ split_of (flagged c.args.flags) (arrivals c.args.self)
+  split_is = c.split_by-count.ensures ∙ ap (split_of (flagged c.args.flags)) c.arrivals.ensures
 
-pub changed-s-requires : goal.changed-s-requires
-changed-s-requires c = fewer_numbers _ _ _ (omega arith) (numbers c.before.before)
+  taken_few : c.split_by-count.result.n ≤ length c.split_by-count.result.taken
+  taken_few = let h = split_few c.args.self (tables_sound c.args.self c.requires) (flagged c.args.flags) c.split_by-count.result split_is in search rules
+
+pub slice_bounds-taken-end : goal.slice_bounds-taken-end
+slice_bounds-taken-end c = taken_few (goal.at.slice_bounds-taken-end c).After-split_by-count
+
+pub slice_bounds-changed-end : goal.slice_bounds-changed-end
+slice_bounds-changed-end c = sym (length-take-le _ _ (taken_few (goal.at.slice_bounds-changed-end c).After-split_by-count))
+
+pub changed-state-requires : goal.changed-state-requires
+changed-state-requires c =
+    split_numbers c.args.self (tables_sound c.args.self c.requires) (flagged c.args.flags) c.split_by-count.result (split_is (goal.at.changed-state-requires c).After-split_by-count)
+
+pub overflow_cast-result : goal.overflow_cast-result
+overflow_cast-result c =
+    omega (arith, split_few c.args.self (tables_sound c.args.self c.requires) (flagged c.args.flags) c.split_by-count.result (split_is (goal.at.overflow_cast-result c).After-split_by-count))
 
 pub returns : goal.returns
 returns c =
-    let k = c in
-    let g = k in
-    ends g.args.self (tables_sound g.args.self g.requires) (flagged g.args.flags) k.split_by-parts.result k.split_by-parts.ensures
-    g.args.last c.changed-s.result c.changed-s.ensures
+    ends c.args.self (tables_sound c.args.self c.requires) (flagged c.args.flags) c.split_by-count.result (split_is (goal.at.returns c).After-split_by-count)
+    c.args.last c.changed-state.result c.changed-state.ensures

@@ -1,66 +1,58 @@
-use mathlib.Core.Path.{◌≡◌, refl, sym, ap, ◌∙◌}
-use mathlib.Core.Bool.{Bool, ◌&&◌, and_assoc, and_comm}
-use Prim.Native.Nat.{ℕ, ◌+◌}
-use lib.Dec.{eqb}
-use native.Mathlib.Omega.{arith}
-use borrow.Author.Rules.{rules}
-use lib.ListN.{length}
-use Rattle.lists.specs.Lists.{all, every_below, count_below}
-use Rattle.lists.proofs.Count.{count_next, count_below_le, tested_start, tested_next, tested_all, every_below_and}
+use Rattle.std.proofs.Common.{◌≡◌, ◌∙◌, sym, ap, Bool, not, ◌&&◌, eqb, ℕ, length, get_or, rules, tests}
+use Rattle.std.specs.Bool.{beq}
+use Rattle.std.proofs.lemmas.Iterator.{YieldsList-from_slice, YieldsList-from_zip}
+use Rattle.std.proofs.lemmas.Iterator.Search.{all_from_yields_List}
+use Rattle.std.proofs.lemmas.Iterator.Consumers.{YieldsList-at, YieldsList-from_filter, count_from_yields_List}
+use Rattle.std.proofs.lemmas.List.Sums.{length-filter}
+use Rattle.lists.specs.Lists.{every_below, count_below}
+use mathlib.Core.Bool.{and_comm}
+use Rattle.lists.proofs.Count.{every_below_and}
 use Rattle.lists.proofs.Tabulate.{all_below}
+use Rattle.lists.proofs.Library.{all_zip, count_by_below}
+use Rattle.tables.specs.declared.Thread.{Thread}
 use Rattle.tables.specs.Sizes.{threads}
-use Rattle.tables.specs.Tables.{fresh_thread, thread_of, record_ok}
-use Rattle.tables.proofs.check.records_ok.Invariants.{agrees, good, waits}
+use Rattle.tables.specs.Tables.{fresh_thread, thread_of, record_ok, records_ok}
+use Rattle.tables.specs.Steps.{placed}
 use Rattle.tables.proofs.check.records_ok.Goals as goal
-use Rattle.tables.proofs.check.records_ok.Goals.{Start}
+use Rattle.tables.proofs.check.records_ok.Goals.{After-all, After-count}
 
-long : (c : Start) → length c.args.s.threads ≡ threads
-long c = search rules
+abbrev fits : ℕ → Thread × ℕ → Bool
+fits now p = record_ok now p.0 && beq (not (eqb p.1 0)) p.0.waiting
 
-pub loop-i-init : goal.loop-i-init
-unfolding count_below
-loop-i-init c = record { tested = tested_start threads _; counted = refl }
+module _ (c : After-all) where
+  each : c.all.result ≡ every_below threads (λ t. fits c.args.s.clock (thread_of c.args.s t, get_or c.args.place t 0))
+  each =
+      let s = c.args.s in
+      let long : length s.threads ≡ threads = search rules in
+      rw long at (
+      all_from_yields_List (fits s.clock) c.all.new.self _ c.all.result c.all.ensures.ran
+      (YieldsList-from_zip (YieldsList-at c.zip.ensures.first (YieldsList-from_slice s.threads cc)) (YieldsList-from_slice c.args.place cc)) (λ x b q k. search (rules, tests))
+      ∙ all_zip (fits s.clock) s.threads c.args.place fresh_thread 0 (search rules))
 
-pub offset_bounds-s-i : goal.offset_bounds-s-i
-offset_bounds-s-i c = omega arith
+  -- the rules of the records, and who waits
+  parted : c.all.result ≡ (every_below threads (λ t. beq (placed c.args.place t) (thread_of c.args.s t).waiting) && records_ok c.args.s)
+  parted =
+      let s = c.args.s in
+      let records : ℕ → Bool = λ t. record_ok s.clock (thread_of s t) in
+      let stands : ℕ → Bool = λ t. beq (placed c.args.place t) (thread_of s t).waiting in
+      let long : length s.threads ≡ threads = search rules in
+      let whole : records_ok s ≡ every_below threads records = rw long at (all_below (record_ok s.clock) s.threads fresh_thread) in
+      each ∙ every_below_and threads records stands ∙ and_comm (every_below threads records) (every_below threads stands) ∙ ap (every_below threads stands &&◌) (sym whole)
 
-pub bounds-s-i : goal.bounds-s-i
-bounds-s-i c = omega arith
+pub returns-then-all : goal.returns-then-all
+returns-then-all c =
+    let s = c.args.s in
+    let long : length s.threads ≡ threads = search rules in
+    let waits : Thread → Bool = λ t. t.waiting in
+    let counted : c.count.result ≡ count_below threads (λ t. (thread_of s t).waiting) =
+    rw long at (
+    count_from_yields_List c.filter.result c.count.result c.count.ensures.ran
+    (YieldsList-from_filter _ waits (YieldsList-at c.filter.ensures.source (YieldsList-from_slice s.threads cc)) c.filter.ensures.closure (λ x b q k. search (rules, tests)))
+    ∙ length-filter waits s.threads ∙ count_by_below waits s.threads fresh_thread) in
+    (λ j. (sym c.if-all.true ∙ parted (goal.at.returns-then-all c).After-all) j && eqb (counted j) s.count)
 
-pub bounds-place-i : goal.bounds-place-i
-bounds-place-i c = omega arith
-
-pub overflow_add-n : goal.overflow_add-n
-overflow_add-n c =
-    let at = c.loop-i in
-    omega (arith, at.invariant.counted, count_below_le at.i (waits c.args.s), at.invariant.tested.within, c.one_if-n.ensures.1)
-
-pub overflow_add-i : goal.overflow_add-i
-overflow_add-i c = omega arith
-
-pub loop-i-smaller : goal.loop-i-smaller
-loop-i-smaller c = omega arith
-
-pub loop-i-preserved : goal.loop-i-preserved
-loop-i-preserved c =
-    let k = c in
-    let s = k.args.s in
-    let place = k.args.place in
-    record {
-      tested = rw and_assoc (tested_next threads (good s place) k.loop-i.ok _ k.loop-i.i k.loop-i.invariant.tested (omega arith) (ap (◌&& agrees s place k.loop-i.i) c.record_ok-good.ensures));
-      counted = (λ j. k.loop-i.invariant.counted j + c.one_if-n.ensures.0 j) ∙ sym (count_next k.loop-i.i (waits s));
-    }
-
-pub returns : goal.returns
-returns c =
-    let g = c.before.before in
-    let s = g.args.s in
-    let place = g.args.place in
-    let at = c.loop-i in
-    let end : at.i ≡ threads = omega (arith, at.invariant.tested.within) in
-    let records : ℕ → Bool = λ t. record_ok s.clock (thread_of s t) in
-    let whole : all (record_ok s.clock) s.threads ≡ every_below threads records = all_below (record_ok s.clock) s.threads fresh_thread ∙ rw (long g) in
-    let every : at.ok ≡ (every_below threads (agrees s place) && all (record_ok s.clock) s.threads) =
-    tested_all threads (good s place) at.ok at.i at.invariant.tested (omega arith)
-    ∙ every_below_and threads records (agrees s place) ∙ and_comm (every_below threads records) (every_below threads (agrees s place)) ∙ rw whole in
-    (λ j. every j && eqb ((at.invariant.counted ∙ ap (λ m. count_below m (waits s)) end) j) s.count)
+pub returns-else-all : goal.returns-else-all
+returns-else-all c =
+    let s = c.args.s in
+    let counts = eqb (count_below threads (λ t. (thread_of s t).waiting)) s.count in
+    c.if-all.false ∙ (λ j. (sym c.if-all.false ∙ parted (goal.at.returns-else-all c).After-all) j && counts)

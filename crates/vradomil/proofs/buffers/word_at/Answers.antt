@@ -4,4 +4,4 @@ use Rattle.vradomil.proofs.Memory.{word_read}
 use Rattle.vradomil.proofs.buffers.word_at.Goals as goal
 
 pub returns : goal.returns
-returns c = let g = c in c.u32_at.ensures.0 ∙ sym (word_read memory_words g.args.words.now g.args.i g.requires.0 g.requires.1)
+returns c = c.u32_at.ensures.0 ∙ sym (word_read memory_words c.args.words.now c.args.i c.told-words c.requires)

@@ -10,17 +10,10 @@ use Rattle.vradomil.proofs.call.judge.Goals as goal
 
 pub returns : goal.returns
 returns c =
-    let k = c in
-    let w = k in
-    let i = w in
-    let r = i in
-    let t = r in
-    let g = t in
-    let b = g.args.tables.now in
-    let ws = words_at g.args.words.now in
-    let x = t.thread_index-t.result in
-    let waits = r.waits_at-waits.ensures ∙ ap (λ (y : Thread). y.waiting) (sym (thread_read b x (thread_below _ _ t.thread_index-t.ensures))) in
-    let clock = k.u64_at-clock.ensures.0 ∙ clock_read b in
+    let b = c.args.tables.now in
+    let x = c.thread_index.result in
+    let waits = c.waits_at-waits.ensures ∙ ap (λ (y : Thread). y.waiting) (sym (thread_read b x (thread_below _ _ c.thread_index.ensures))) in
+    let clock = c.u64_at-clock.ensures.0 ∙ clock_read b in
     c.verdict_on.ensures
-    ∙ (λ j. first (call_rows g.args.c (waits j) (clock j) (w.word_at-word.ensures j)))
-    ∙ own_verdict g.args.c (state_at b) ws x i.word_index-i.result t.thread_index-t.ensures i.word_index-i.ensures
+    ∙ (λ j. first (call_rows c.args.c (waits j) (clock j) (c.word_at-word.ensures j)))
+    ∙ own_verdict c.args.c (state_at b) (words_at c.args.words.now) x c.word_index.result c.thread_index.ensures c.word_index.ensures

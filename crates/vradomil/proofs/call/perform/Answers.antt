@@ -6,7 +6,5 @@ use Rattle.vradomil.proofs.call.perform.Goals as goal
 
 pub returns : goal.returns
 returns c =
-    let o = c in
-    let p = o in
-    let is = p.plan_at-d.ensures.effect in
-    (leaves_by _ _ _ _ (sym is) o.carry_out.ensures.0, o.carry_out.ensures.1 ∙ ap (λ (x : Outcome). words_bytes x.world.words) (sym is))
+    let is = c.plan_at-d.ensures.effect in
+    (leaves_by _ _ _ _ (sym is) c.carry_out.ensures.0, c.carry_out.ensures.1 ∙ ap (λ (x : Outcome). words_bytes x.world.words) (sym is))

@@ -1,9 +1,6 @@
-use borrow.Author.Tests.{not-true, not-false}
 use mathlib.Core.Path.{◌≡◌, ap, ◌∙◌}
-use mathlib.Core.Bool.{true}
-use native.Mathlib.Omega.{arith}
+use Rattle.std.specs.Prelude.{Some, None}
 use lib.ListN.{set}
-use Rattle.lists.specs.LittleEndian.{Bytes}
 use Rattle.tables.specs.Sizes.{memory_words}
 use Rattle.tables.specs.Tables.{write_word}
 use Rattle.layout.specs.Layout.{words_at, words_bytes}
@@ -11,23 +8,20 @@ use Rattle.layout.proofs.Exact.{words_exact}
 use Rattle.vradomil.proofs.Memory.{word_written}
 use Rattle.commands.proofs.Places.{word_below, word_there}
 use Rattle.vradomil.proofs.call.put_word.Goals as goal
-use Rattle.vradomil.proofs.call.put_word.Goals.{After-word_index-i}
+use Rattle.vradomil.proofs.call.put_word.Goals.{After-word_index}
 
-low : (c : After-word_index-i) → Bytes c.args.words.now
-low c = λ j. omega (arith, c.type_inv.words j)
-
-pub returns-then-not-d : goal.returns-then-not-d
-returns-then-not-d c =
-    λ s.
-    rw (not-true c.args.d.writes c.if-not-d.true) (words_exact memory_words c.args.words.now c.requires.1.0 (λ j. omega (arith, c.type_inv.words j)))
-
-pub returns : goal.returns
+pub returns-in-Some : goal.returns-in-Some
 unfolding write_word
-returns c =
+returns-in-Some c =
     λ s.
     let m = c.args.words.now in
-    let writes : c.args.d.writes ≡ true = not-false c.args.d.writes c.if-not-d.false in
-    let at = word_there _ _ c.word_index-i.ensures c.requires.0 (c.requires.1.1 writes) in
-    let low = low (goal.at.returns c).After-word_index-i in
-    rw writes (c.put_u32.ensures ∙ word_written memory_words m c.word_index-i.result c.args.d.word c.requires.1.0 low (word_below _ _ c.word_index-i.ensures)
-    ∙ ap (λ j. words_bytes (set (words_at m) j c.args.d.word)) at)
+    let writes : c.args.d.word ≡ Some c.in-Some.word = c.in-Some.is in
+    let at = word_there _ _ c.word_index.ensures c.requires.0 (c.requires.1 (rw writes)) in
+    rw writes (c.put_u32.ensures ∙ word_written memory_words m c.word_index.result c.in-Some.word c.told-words c.fits-words (word_below _ _ c.word_index.ensures)
+    ∙ ap (λ j. words_bytes (set (words_at m) j c.in-Some.word)) at)
+
+pub returns-in_default : goal.returns-in_default
+returns-in_default c =
+    λ s.
+    let keeps : c.args.d.word ≡ None = c.in_default.is in
+    rw keeps (words_exact memory_words c.args.words.now c.told-words c.fits-words)

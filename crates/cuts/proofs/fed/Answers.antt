@@ -1,0 +1,11 @@
+use Rattle.std.proofs.Common.{arith}
+use mathlib.Core.Path.{ap, sym, ◌∙◌}
+use Rattle.pieces.specs.declared.Fed.{Fed}
+use Rattle.pieces.proofs.Theorems.{feed_goes_on}
+use Rattle.cuts.proofs.fed.Goals as goal
+
+pub loop-event-smaller : goal.loop-event-smaller
+loop-event-smaller c =
+    let fed = c.feed-found.ensures in
+    let on = feed_goes_on c.loop-event.reader c.args.piece.now c.loop-event.place c.in-Ok.event c.loop-event.invariant (sym (ap (λ (x : Fed). x.found) fed) ∙ c.in-Ok.is) in
+    omega (arith, on, ap (λ (x : Fed). x.at) fed)
