@@ -3,7 +3,7 @@
 An edit of src/ holds wrong programs, and one of specs/ may hold wrong definitions: each is a line `wrong: NAME`, a line `fn: PATH` (the
 function that does not meet its contract then) or, for a definition, `law: FILE.NAME` (the law of proofs/FILE.antt that is false then), a
 line that says what is wrong, and its replacements. An edit of specs/ with one replacement and no `wrong:` line goes by the name of its file."""
-import collections, glob, hashlib, os
+import collections, glob, hashlib, os, re
 
 from kit import read
 
@@ -33,9 +33,34 @@ def text_of(wrong):
     return short_hash('\n'.join(f'{r.file}\n{r.old}\n{r.new}' for r in wrong.replacements))
 
 
+# a clause or a ghost item, up to its opening brace
+CLAUSE = re.compile(r'\b(?:requires|ensures|invariant|decreases|ghost)\b\*?\s*(?:\w+\s*)*(?::\s*)?\{')
+
+
+def closing(text, at):
+    """Where the braces close that are open at a place."""
+    depth = 1
+    while at < len(text) and depth:
+        depth += {'{': 1, '}': -1}.get(text[at], 0)
+        at += 1
+    return at
+
+
+def code_of(text):
+    """The words of a file's code: without comments, attributes, imports and clauses, which say nothing of what it does."""
+    text = re.sub(r'//[^\n]*', '', text)
+    text = re.sub(r'#!?\[(?:[^\[\]]|\[[^\[\]]*\])*\]', '', text)
+    text = re.sub(r'(?m)^\s*(?:pub )?(?:ghost )?use\b[^;]*;', '', text)
+    kept, at = [], 0
+    while found := CLAUSE.search(text, at):
+        kept.append(text[at : found.start()])
+        at = closing(text, found.end())
+    return re.findall(r'\w+|\S', ''.join(kept) + text[at:])
+
+
 def source_of(crate):
-    """A hash of the crate's source."""
-    return short_hash('\n'.join(f'{path}\n{read(path)}' for path in sorted(glob.glob(f'crates/{crate}/src/**/*.rt', recursive=True))))
+    """A hash of the crate's code."""
+    return short_hash('\n'.join(f'{path}\n{" ".join(code_of(read(path)))}' for path in sorted(glob.glob(f'crates/{crate}/src/**/*.rt', recursive=True))))
 
 
 def replacements(edit):
