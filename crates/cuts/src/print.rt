@@ -3,6 +3,8 @@ use crate::sum::Seen;
 use pieces::{Ending, HELD, Told};
 use std::io::{self, Write};
 
+const DIGITS: &[u8; 16] = b"0123456789abcdef";
+
 fn answer(ending: Ending) -> &'static str {
     match ending {
         Ending::Open => "more",
@@ -16,7 +18,10 @@ fn answer(ending: Ending) -> &'static str {
 pub(crate) fn line(out: &mut impl Write, seen: Seen, told: Told) -> io::Result<()> {
     let Told { ending, state } = told;
     let mut held = [0; 2 * HELD];
-    hex::encode_to_slice(state.held, &mut held).unwrap();
+    for (i, &byte) in state.held.iter().enumerate() {
+        held[2 * i] = DIGITS[usize::from(byte / 16)];
+        held[2 * i + 1] = DIGITS[usize::from(byte % 16)];
+    }
     write!(out, "{} {:016x} {} ", seen.events, seen.sum, answer(ending))?;
     write!(out, "{:02x}{:02x}", state.ending as u8, state.count)?;
     out.write_all(&held)?;
