@@ -1,13 +1,13 @@
 // Changes: what a call reads of its process, and the changes of the tables, on their bytes where they lie. It stands on layout and views.
 #![tactic(auto)]
 
-ghost use Rattle.std.specs.Prelude.{◌≡◌, false, not, [], ◌∷◌, ◌++◌, ◌+◌, ◌-◌, ◌%◌, ◌≤◌, ◌<◌, length, take, drop};
+ghost use Rattle.std.specs.Prelude.{◌≡◌, false, not, [], ◌∷◌, ◌++◌, ◌+◌, ◌-◌, ◌%◌, ◌≤◌, ◌<◌, length, take, drop, is_some, unwrap_or};
 ghost use Rattle.lists.specs.Lists.{all};
 ghost use Rattle.lists.specs.LittleEndian.{number_at};
 ghost use Rattle.tables.specs.declared.LastAnswer.TheVariants.{Woken, TimedOut};
 ghost use Rattle.tables.specs.declared.Change.TheVariants.{End};
 ghost use Rattle.tables.specs.Sizes.{processes, threads, no_entry};
-ghost use Rattle.tables.specs.Tables.{thread_of, arrivals, change, with_threads, with_sleep, ended, asleep_at, fall_asleep, end_sleeps, move_sleeps, set_priority};
+ghost use Rattle.tables.specs.Tables.{thread_of, arrivals, change, with_threads, stored_deadline, with_sleep, ended, asleep_at, fall_asleep, end_sleeps, move_sleeps, set_priority};
 ghost use Rattle.tables.specs.Steps.{Numbers, Places, changed_by, end_flagged};
 ghost use Rattle.views.specs.Views.{Views};
 ghost use Rattle.layout.specs.Layout.{time_bytes, count_at, thread_at, state_at, tables_bytes};
@@ -21,7 +21,7 @@ use layout::{
 };
 use numbers::{put_u32, put_u64, u32_at, u64_at};
 use std::array;
-use tables::{LastAnswer, State, THREADS, stored_deadline};
+use tables::{LastAnswer, Sleep, State, THREADS};
 use views::View;
 
 // Of the places of all threads those of a process.
@@ -53,19 +53,16 @@ fn put_sleep(
     b: &mut [u8; TABLES_SIZE],
     i: usize,
     waiting: bool,
-    uaddr: u32,
-    bitset: u32,
-    timed: bool,
-    deadline: u64,
+    sleep: Sleep,
 )
     requires { i < threads }
-    ensures { Writes (at_thread i (with_sleep waiting uaddr bitset timed deadline)) b.old b.new }
+    ensures { Writes (at_thread i (with_sleep waiting sleep.uaddr sleep.bitset (is_some sleep.deadline) (stored_deadline (is_some sleep.deadline) (unwrap_or sleep.deadline 0)))) b.old b.new }
 {
     b[WAITING_AT + i] = u8::from(waiting);
-    b[TIMED_AT + i] = u8::from(timed);
-    put_u32(b, UADDR_AT + WORD_SIZE * i, uaddr);
-    put_u32(b, BITSET_AT + WORD_SIZE * i, bitset);
-    put_u64(b, DEADLINE_AT + TIME_SIZE * i, deadline);
+    b[TIMED_AT + i] = u8::from(sleep.deadline.is_some());
+    put_u32(b, UADDR_AT + WORD_SIZE * i, sleep.uaddr);
+    put_u32(b, BITSET_AT + WORD_SIZE * i, sleep.bitset);
+    put_u64(b, DEADLINE_AT + TIME_SIZE * i, sleep.stored_deadline());
 }
 
 // The sleep of a thread is over, with the answer.
@@ -73,7 +70,7 @@ fn end_sleep(b: &mut [u8; TABLES_SIZE], i: usize, last: LastAnswer)
     requires { i < threads }
     ensures { Writes (at_thread i (ended last)) b.old b.new }
 {
-    put_sleep(b, i, false, 0, 0, false, 0);
+    put_sleep(b, i, false, Sleep::NONE);
     b[LAST_AT + i] = last as u8;
 }
 
@@ -228,20 +225,12 @@ pub fn take(
 
 // A running thread sleeps, and joins the end of the list, where there is room, since it is not there yet. It is called for a caller that
 // is not waiting.
-pub fn fall_asleep(
-    b: &mut [u8; TABLES_SIZE],
-    t: usize,
-    uaddr: u32,
-    bitset: u32,
-    timed: bool,
-    deadline: u64,
-)
+pub fn fall_asleep(b: &mut [u8; TABLES_SIZE], t: usize, sleep: Sleep)
     requires { Held b.old × ((t < threads) × ((thread_of (state_at b.old) t).waiting ≡ false)) }
-    ensures { b.new ≡ tables_bytes (fall_asleep (asleep_at uaddr bitset timed deadline) t (state_at b.old)) }
+    ensures { b.new ≡ tables_bytes (fall_asleep (asleep_at sleep.uaddr sleep.bitset (is_some sleep.deadline) (unwrap_or sleep.deadline 0)) t (state_at b.old)) }
 {
-    let due = stored_deadline(timed, deadline);
     let n = u64_at(b, COUNT_AT) as usize;
-    put_sleep(b, t, true, uaddr, bitset, timed, due);
+    put_sleep(b, t, true, sleep);
     b[LIST_AT + n] = t as u8;
     put_u64(b, COUNT_AT, (n + 1) as u64);
 }

@@ -97,13 +97,7 @@ fn carry_out(s: State, words: &mut [u32], c: Call, place: [u8; THREADS], d: Plan
     match d {
         Plan::Sleep(d) => {
             let t = thread_index(c.process, c.index);
-            let state = s.fall_asleep(
-                t,
-                c.uaddr,
-                d.bitset,
-                d.deadline.is_some(),
-                d.deadline.unwrap_or(0),
-            );
+            let state = s.fall_asleep(t, d);
             Answered {
                 answer: Answer::Asleep,
                 state,

@@ -3,20 +3,20 @@ use mathlib.Core.Path.{◌≡◌, refl}
 use Prim.Native.Nat.{ℕ}
 use Rattle.std.specs.Prelude.{Option, Some, None, is_some, unwrap_or}
 use Rattle.tables.specs.declared.State.{State}
+use Rattle.tables.specs.declared.Sleep.{Sleep}
 use Rattle.tables.specs.declared.LastAnswer.TheVariants.{Woken}
 use Rattle.rules.specs.declared.event.Call.{Call}
 use Rattle.rules.specs.declared.answer.Answer.TheVariants.{Asleep, Count}
 use Rattle.tables.specs.Tables.{World, world, asleep_at, fall_asleep, end_sleeps, move_sleeps, write_word, with_state}
 use Rattle.rules.specs.Answers.{outcome}
 use Rattle.rules.specs.Calls.{caller}
-use Rattle.plans.specs.declared.Sleep.{Sleep}
 use Rattle.plans.specs.declared.Take.{Take}
 use Rattle.plans.specs.declared.Plan.TheVariants.{Sleep as SleepPlan, Take as TakePlan}
 use Rattle.plans.specs.Plans.{released_of, moved_of, written_by, written, carried}
 
 -- a caller that falls asleep
 pub carried_asleep : (c : Call) (d : Sleep) (w : World)
-    → carried c (SleepPlan d) w ≡ outcome Asleep (with_state (fall_asleep (asleep_at c.uaddr d.bitset (is_some d.deadline) (unwrap_or d.deadline 0)) (caller c) w.state) w)
+    → carried c (SleepPlan d) w ≡ outcome Asleep (with_state (fall_asleep (asleep_at d.uaddr d.bitset (is_some d.deadline) (unwrap_or d.deadline 0)) (caller c) w.state) w)
 unfolding carried
 carried_asleep c d w = refl
 

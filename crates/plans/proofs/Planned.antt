@@ -49,7 +49,7 @@ asleep_given a m false due = refl
 -- the plan of a wait
 pub planned_sleep : (c : Call) (w : World) → Granted c w.state w.words → (uses (command_of c.op)).deadline ≡ true → (mask : ℕ) (due : Option ℕ)
     → mask ≡ mask_of (command_of c.op) c → due ≡ then_some (timeout_given c) (deadline_of (command_of c.op) c w.state.clock)
-    → Planned c w (SleepPlan (record { bitset = mask; deadline = due }))
+    → Planned c w (SleepPlan (record { uaddr = c.uaddr; bitset = mask; deadline = due }))
 unfolding carried wait
 planned_sleep c w g wait mask due is_mask is_due =
     let k = command_of c.op in

@@ -20,7 +20,7 @@ use Rattle.rules.specs.Commands.{command_of, is_unknown, uses}
 use Rattle.rules.specs.Calls.{caller, old_word, call_effect}
 use Rattle.views.specs.declared.View.{View}
 use Rattle.views.specs.Views.{Views}
-use Rattle.plans.specs.declared.Sleep.{Sleep}
+use Rattle.tables.specs.declared.Sleep.{Sleep}
 use Rattle.plans.specs.declared.Take.{Take}
 use Rattle.plans.specs.declared.Plan.{Plan}
 use Rattle.plans.specs.declared.Plan.TheVariants.{Sleep as SleepPlan, Take as TakePlan}

@@ -2,6 +2,7 @@
 use Rattle.std.specs.Prelude.{◌≡◌, Bool, true, false, not, cond, ◌&&◌, List, [], ◌++◌, ℕ, ◌+◌, ◌≤◌, take, drop, eqb, Option, Some, None, is_some, unwrap_or}
 use Rattle.lists.specs.Lists.{all, elem, distinct}
 use Rattle.tables.specs.declared.State.{State}
+use Rattle.tables.specs.declared.Sleep.{Sleep}
 use Rattle.tables.specs.declared.LastAnswer.TheVariants.{Woken}
 use Rattle.rules.specs.declared.event.Call.{Call}
 use Rattle.rules.specs.declared.answer.Answer.TheVariants.{Asleep, Count}
@@ -13,7 +14,6 @@ use Rattle.rules.specs.WakeOp.{compares}
 use Rattle.rules.specs.Calls.{caller, old_word, released, moved, released_second, call_effect}
 use Rattle.views.specs.declared.View.{View}
 use Rattle.views.specs.Views.{Views}
-use Rattle.plans.specs.declared.Sleep.{Sleep}
 use Rattle.plans.specs.declared.Take.{Take}
 use Rattle.plans.specs.declared.Plan.{Plan}
 use Rattle.plans.specs.declared.Plan.TheVariants.{Sleep as SleepPlan, Take as TakePlan}
@@ -39,7 +39,7 @@ written c d w = written_by c d.word w
 -- A plan carried out: what the call is answered, and the tables and words that it leaves.
 unfoldable pub carried : Call → Plan → World → Outcome
 carried c (SleepPlan d) w =
-    outcome Asleep (with_state (fall_asleep (asleep_at c.uaddr d.bitset (is_some d.deadline) (unwrap_or d.deadline 0)) (caller c) w.state) w)
+    outcome Asleep (with_state (fall_asleep (asleep_at d.uaddr d.bitset (is_some d.deadline) (unwrap_or d.deadline 0)) (caller c) w.state) w)
 carried c (TakePlan d) w =
     outcome (Count d.count)
     (written c d (with_state (move_sleeps c.uaddr2 (moved_of d) (end_sleeps Woken (released_of d) w.state)) w))

@@ -14,15 +14,8 @@ use arrivals::either;
 use commands::{deadline_of, mask_of, second_cap, timeout_given, uses_by};
 use operations::{compares, new_word};
 use rules::event::Call;
-use tables::State;
+use tables::{Sleep, State};
 use views::{View, Wanted, at_rank, candidates};
-
-// The caller falls asleep at uaddr, with a mask and perhaps a deadline.
-#[derive(Clone, Copy)]
-pub struct Sleep {
-    pub bitset: u32,
-    pub deadline: Option<u64>,
-}
 
 // Sleepers are taken, by number and in order, of which the first run and the next move to uaddr2, and a word may be written at uaddr2. The
 // count is the answer then.
@@ -35,7 +28,7 @@ pub struct Take {
     pub count: u32,
 }
 
-// What a call does.
+// What a call does: the caller falls asleep, or sleepers are taken.
 #[derive(Clone, Copy)]
 pub enum Plan {
     Sleep(Sleep),
@@ -134,6 +127,7 @@ pub fn sleep_plan(c: Call, now: u64) -> Sleep
 {
     let u = uses_by(c.op);
     Sleep {
+        uaddr: c.uaddr,
         bitset: mask_of(c, u.mask),
         deadline: timeout_given(c).then_some(deadline_of(c, u.mask, now)),
     }

@@ -1,7 +1,7 @@
 // Tables: what the kernel keeps, a clock, a record for each thread and the arrival list with its count; their rules and changes. It stands on arrivals.
 #![tactic(auto)]
 
-ghost use Rattle.std.specs.Prelude.{◌≡◌, true, false, ◌++◌, ◌+◌, ◌≤◌, ◌<◌, length};
+ghost use Rattle.std.specs.Prelude.{◌≡◌, true, false, ◌++◌, ◌+◌, ◌≤◌, ◌<◌, length, is_some, unwrap_or};
 ghost use Rattle.tables.specs.Sizes.{threads};
 ghost use Rattle.tables.specs.Tables.{fresh_thread, stored_deadline, with_sleep, with_last, ended, moved_to, with_priority, asleep_at, expired, thread_of, arrivals, fresh, change, with_threads, fall_asleep, end_sleeps, move_sleeps, set_priority, tables_ok};
 ghost use Rattle.tables.specs.Steps.{changed_by, Numbers, Flags, flagged, end_flagged, Taking};
@@ -61,11 +61,28 @@ pub enum Change {
     MoveTo(u32),
 }
 
-// "no deadline with 0 stored"
-pub fn stored_deadline(timed: bool, deadline: u64) -> u64
-    ensures { result ≡ stored_deadline timed deadline }
-{
-    if timed { deadline } else { 0 }
+// A sleep: the word's address, the waiter's mask, and the deadline where it has one.
+#[derive(Clone, Copy, Debug, PartialEq, Eq)]
+pub struct Sleep {
+    pub uaddr: u32,
+    pub bitset: u32,
+    pub deadline: Option<u64>,
+}
+
+impl Sleep {
+    // What a record holds that does not wait.
+    pub const NONE: Self = Self {
+        uaddr: 0,
+        bitset: 0,
+        deadline: None,
+    };
+
+    // "no deadline with 0 stored"
+    pub fn stored_deadline(self) -> u64
+        ensures { result ≡ stored_deadline (is_some self.deadline) (unwrap_or self.deadline 0) }
+    {
+        self.deadline.unwrap_or(0)
+    }
 }
 
 impl Thread {
@@ -84,21 +101,14 @@ impl Thread {
     }
 
     // Another sleep; whatever else the record holds stays.
-    fn with_sleep(
-        mut self,
-        waiting: bool,
-        uaddr: u32,
-        bitset: u32,
-        timed: bool,
-        deadline: u64,
-    ) -> Self
-        ensures { result ≡ with_sleep waiting uaddr bitset timed deadline self }
+    fn with_sleep(mut self, waiting: bool, sleep: Sleep) -> Self
+        ensures { result ≡ with_sleep waiting sleep.uaddr sleep.bitset (is_some sleep.deadline) (stored_deadline (is_some sleep.deadline) (unwrap_or sleep.deadline 0)) self }
     {
         self.waiting = waiting;
-        self.uaddr = uaddr;
-        self.bitset = bitset;
-        self.timed = timed;
-        self.deadline = deadline;
+        self.uaddr = sleep.uaddr;
+        self.bitset = sleep.bitset;
+        self.timed = sleep.deadline.is_some();
+        self.deadline = sleep.stored_deadline();
         self
     }
 
@@ -120,7 +130,7 @@ impl Thread {
     fn ended(self, last: LastAnswer) -> Self
         ensures { result ≡ ended last self }
     {
-        self.with_sleep(false, 0, 0, false, 0).with_last(last)
+        self.with_sleep(false, Sleep::NONE).with_last(last)
     }
 
     fn moved_to(mut self, to: u32) -> Self
@@ -140,11 +150,10 @@ impl Thread {
     }
 
     // The record of a sleeper; the answer of its last ended sleep stays.
-    pub fn asleep_at(self, uaddr: u32, bitset: u32, timed: bool, deadline: u64) -> Self
-        ensures { result ≡ asleep_at uaddr bitset timed deadline self }
+    pub fn asleep_at(self, sleep: Sleep) -> Self
+        ensures { result ≡ asleep_at sleep.uaddr sleep.bitset (is_some sleep.deadline) (unwrap_or sleep.deadline 0) self }
     {
-        let due = stored_deadline(timed, deadline);
-        self.with_sleep(true, uaddr, bitset, timed, due)
+        self.with_sleep(true, sleep)
     }
 
     pub fn has_expired(self, now: u64) -> bool
@@ -242,18 +251,11 @@ impl State {
 
     // A running thread sleeps, and joins the end of the list, where there is room, since it is not there yet. The kernel calls it for a
     // caller that is not waiting.
-    pub fn fall_asleep(
-        mut self,
-        t: usize,
-        uaddr: u32,
-        bitset: u32,
-        timed: bool,
-        deadline: u64,
-    ) -> Self
+    pub fn fall_asleep(mut self, t: usize, sleep: Sleep) -> Self
         requires { (tables_ok self ≡ true) × ((t < threads) × ((thread_of self t).waiting ≡ false)) }
-        ensures { result ≡ fall_asleep (asleep_at uaddr bitset timed deadline) t self }
+        ensures { result ≡ fall_asleep (asleep_at sleep.uaddr sleep.bitset (is_some sleep.deadline) (unwrap_or sleep.deadline 0)) t self }
     {
-        self.threads[t] = self.threads[t].asleep_at(uaddr, bitset, timed, deadline);
+        self.threads[t] = self.threads[t].asleep_at(sleep);
         self.list[self.count] = t as u8;
         self.count += 1;
         self

@@ -65,14 +65,7 @@ fn carry_out(
     match d {
         Plan::Sleep(d) => {
             let t = thread_index(c.process, c.index);
-            fall_asleep(
-                b,
-                t,
-                c.uaddr,
-                d.bitset,
-                d.deadline.is_some(),
-                d.deadline.unwrap_or(0),
-            );
+            fall_asleep(b, t, d);
             ASLEEP
         }
         Plan::Take(d) => {

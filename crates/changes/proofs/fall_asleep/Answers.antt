@@ -1,11 +1,12 @@
-use mathlib.Core.Path.{◌≡◌, ap, ◌∙◌}
-use mathlib.Core.Bool.{true, false}
+use mathlib.Core.Path.{◌≡◌, refl, ap, ◌∙◌}
+use mathlib.Core.Bool.{false}
 use mathlib.Core.List.{List}
 use Prim.Native.Nat.{ℕ, ◌+◌, ◌<◌}
 use native.Mathlib.Omega.{arith}
 use lib.ListN.{set}
+use Rattle.std.specs.Prelude.{is_some, unwrap_or}
 use Rattle.tables.specs.Sizes.{threads}
-use Rattle.tables.specs.Tables.{thread_of, with_sleep, asleep_at}
+use Rattle.tables.specs.Tables.{thread_of, asleep_at}
 use Rattle.tables.proofs.Sound.{tables_sound, room}
 use Rattle.tables.proofs.Stored.{falls_asleep}
 use Rattle.layout.specs.Layout.{time_bytes, count_at, state_at, tables_bytes}
@@ -37,13 +38,12 @@ returns c =
     let b = g.b.now in
     let s = state_at b in
     let k = c.u64_at-n.result in
-    let f = asleep_at g.uaddr g.bitset g.timed g.deadline in
+    let has = is_some g.sleep.deadline in
+    let due = unwrap_or g.sleep.deadline 0 in
+    let f = asleep_at g.sleep.uaddr g.sleep.bitset has due in
     let w = whole s c.requires.0.sound in
-    let new = with_sleep true g.uaddr g.bitset g.timed c.stored_deadline-due.result in
     let count : k ≡ s.count = c.u64_at-n.ensures.0 ∙ count_read b in
-    let is : new (thread_of s g.t) ≡ f (thread_of s g.t) =
-    ap (λ due. with_sleep true g.uaddr g.bitset g.timed due (thread_of s g.t)) c.stored_deadline-due.ensures in
     c.put_u64.ensures
-    ∙ entry_put (at_thread g.t new s) (whole_at g.t new s w) k g.t (k + 1) (low b g.t k c.requires.0 c.requires.1 c.u64_at-n.ensures.0) c.put_sleep.new.b (c.put_sleep.ensures s w c.requires.0.bytes)
-    ∙ ap (λ m. tables_bytes (record { clock = s.clock; threads = set s.threads g.t (new (thread_of s g.t)); list = set s.list m g.t; count = m + 1 })) count
-    ∙ ap tables_bytes (falls_asleep s (tables_sound s c.requires.0.sound) g.t g.uaddr g.bitset g.timed g.deadline (new (thread_of s g.t)) c.requires.1.0 c.requires.1.1 is)
+    ∙ entry_put (at_thread g.t f s) (whole_at g.t f s w) k g.t (k + 1) (low b g.t k c.requires.0 c.requires.1 c.u64_at-n.ensures.0) c.put_sleep.new.b (c.put_sleep.ensures s w c.requires.0.bytes)
+    ∙ ap (λ m. tables_bytes (record { clock = s.clock; threads = set s.threads g.t (f (thread_of s g.t)); list = set s.list m g.t; count = m + 1 })) count
+    ∙ ap tables_bytes (falls_asleep s (tables_sound s c.requires.0.sound) g.t g.sleep.uaddr g.sleep.bitset has due (f (thread_of s g.t)) c.requires.1.0 c.requires.1.1 refl)

@@ -26,7 +26,7 @@ unfolding carried
 returns-in-Sleep c =
     let g = c.requires.0.ready in
     let at = thread_there _ _ c.thread_index-t.ensures g.process g.index in
-    (rw (c.in-Sleep.is, c.fall_asleep-state.ensures, c.is_some.ensures, c.unwrap_or.ensures, at), rw c.in-Sleep.is)
+    (rw (c.in-Sleep.is, c.fall_asleep-state.ensures, at), rw c.in-Sleep.is)
 
 pub entries-taken-requires : goal.entries-taken-requires
 entries-taken-requires c =

@@ -1,4 +1,5 @@
 use Rattle.std.proofs.Common.{◌<◌, arith}
+use Rattle.std.specs.Prelude.{is_some, unwrap_or}
 use Rattle.tables.specs.Sizes.{threads}
 use Rattle.tables.proofs.Sound.{tables_sound, room}
 use Rattle.tables.proofs.Stored.{falls_asleep}
@@ -17,5 +18,5 @@ overflow_add-self c = omega (arith, free (goal.at.overflow_add-self c).Start)
 
 pub returns : goal.returns
 returns c =
-    falls_asleep c.args.self (tables_sound c.args.self c.requires.0) c.args.t c.args.uaddr c.args.bitset c.args.timed c.args.deadline
+    falls_asleep c.args.self (tables_sound c.args.self c.requires.0) c.args.t c.args.sleep.uaddr c.args.sleep.bitset (is_some c.args.sleep.deadline) (unwrap_or c.args.sleep.deadline 0)
     c.asleep_at.result c.requires.1.0 c.requires.1.1 c.asleep_at.ensures

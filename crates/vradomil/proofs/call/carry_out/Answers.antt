@@ -29,7 +29,7 @@ returns-in-Sleep c =
       leaves_by _ _ _ _ is (record {
         number = refl;
         small = omega arith;
-        bytes = c.fall_asleep.ensures ∙ rw (c.is_some.ensures, c.unwrap_or.ensures, at);
+        bytes = c.fall_asleep.ensures ∙ rw at;
       }),
       words_exact memory_words m c.requires.0.long c.fits-words ∙ ap (λ (o : Outcome). words_bytes o.world.words) is,
     )
