@@ -6,7 +6,7 @@ use Prim.Native.Nat.{ℕ, ◌+◌, ◌-◌, ◌%◌, ◌≤◌, ◌<◌}
 use native.Mathlib.Omega.{arith}
 use borrow.Author.Tests.{eqb-true, not-true}
 use lib.ListN.{length, take, drop, get_or, length-drop}
-use lib.Seq.{length-take-le, take_all, take-take, take-add, get_or-take, get_or-drop}
+use lib.Seq.{length-take-le, take_all, take-append_seam, drop-append_seam, take-take, take-add, get_or-take, get_or-drop}
 use lib.Dec.{eqb}
 use Rattle.lists.specs.Lists.{all, elem, without, distinct, pad_to}
 use Rattle.lists.specs.LittleEndian.{number_at}
@@ -66,12 +66,12 @@ move_next a us x s out low =
 abbrev pub taken : State → List ℕ → ℕ → ℕ → ℕ → State
 taken s ts n a i = move_sleeps a (take (i - n) (drop n ts)) (end_sleeps Woken (take i (take n ts)) s)
 
-pub record OneByOne (s : State) (ts : List ℕ) (n m a : ℕ) (b at : List ℕ) (i : ℕ) : Type 0 where
+pub record OneByOne (s : State) (ts : List ℕ) (n many a : ℕ) (b at : List ℕ) (i : ℕ) : Type 0 where
   pub bytes : b ≡ tables_bytes (taken s ts n a i)
   pub lined : Lined (taken s ts n a i)
-  pub coming : (k : ℕ) → i ≤ k → k < n + m → StandsAt (get_or at (get_or ts k 0 % threads_per_process) 0) (get_or ts k 0) (arrivals (taken s ts n a i))
+  pub coming : (k : ℕ) → i ≤ k → k < many → StandsAt (get_or at (get_or ts k 0 % threads_per_process) 0) (get_or ts k 0) (arrivals (taken s ts n a i))
 
-module _ (b₀ : List ℕ) (h : Held b₀) (place ts : List ℕ) (n m a : ℕ) (g : Leave place ts (n + m) (state_at b₀)) (long : length ts ≡ threads_per_process) where
+module _ (b₀ : List ℕ) (h : Held b₀) (place ts : List ℕ) (n many a : ℕ) (g : Leave place ts many (state_at b₀)) (long : many ≤ length ts) where
   abbrev s : State
   s = state_at b₀
 
@@ -79,18 +79,18 @@ module _ (b₀ : List ℕ) (h : Held b₀) (place ts : List ℕ) (n m a : ℕ) (
   sound = tables_sound s h.sound
 
   -- what all those that are taken pass
-  passes : (f : ℕ → Bool) → all f (take (n + m) ts) ≡ true → (k : ℕ) → k < n + m → f (get_or ts k 0) ≡ true
+  passes : (f : ℕ → Bool) → all f (take many ts) ≡ true → (k : ℕ) → k < many → f (get_or ts k 0) ≡ true
   passes f h k less =
-      ap f (sym (get_or-take (n + m) ts k 0 less))
-      ∙ at_all f 0 (take (n + m) ts) h k (omega (arith, length-take-le (n + m) ts (omega (arith, g.few))))
+      ap f (sym (get_or-take many ts k 0 less))
+      ∙ at_all f 0 (take many ts) h k (omega (arith, length-take-le many ts long))
 
-  listed : (k : ℕ) → k < n + m → elem (get_or ts k 0) (arrivals s) ≡ true
+  listed : (k : ℕ) → k < many → elem (get_or ts k 0) (arrivals s) ≡ true
   listed k less = passes (λ t. elem t (arrivals s)) g.each k less
 
-  taken_low : (k : ℕ) → k < n + m → get_or ts k 0 < threads
+  taken_low : (k : ℕ) → k < many → get_or ts k 0 < threads
   taken_low k less = listed_below s sound (get_or ts k 0) (listed k less)
 
-  stands : (k : ℕ) → k < n + m → StandsAt (get_or place (get_or ts k 0 % threads_per_process) 0) (get_or ts k 0) (arrivals s)
+  stands : (k : ℕ) → k < many → StandsAt (get_or place (get_or ts k 0 % threads_per_process) 0) (get_or ts k 0) (arrivals s)
   stands k less =
       let t = get_or ts k 0 in
       let whose = eqb-true (process_of t) g.process (passes (λ u. eqb (process_of u) g.process) g.own k less) in
@@ -100,15 +100,15 @@ module _ (b₀ : List ℕ) (h : Held b₀) (place ts : List ℕ) (n m a : ℕ) (
         there = g.column (t % threads_per_process) (omega arith) ∙ ap (λ u. place_of u (arrivals s)) number;
       }
 
-  first_time : (k : ℕ) → k < n + m → elem (get_or ts k 0) (take k ts) ≡ false
-  first_time k less = fresh ts (n + m) k g.apart (omega (arith, g.few)) less
+  first_time : (k : ℕ) → k < many → elem (get_or ts k 0) (take k ts) ≡ false
+  first_time k less = fresh ts many k g.apart long less
 
   -- a later one is another
-  other : (i k : ℕ) → i < k → k < n + m → eqb (get_or ts k 0) (get_or ts i 0) ≡ false
+  other : (i k : ℕ) → i < k → k < many → eqb (get_or ts k 0) (get_or ts i 0) ≡ false
   other i k later less = cases (eqb (get_or ts k 0) (get_or ts i 0))
       (λ e. clash (elem (get_or ts k 0) (take k ts))
       (ap (λ u. elem u (take k ts)) (eqb-true (get_or ts k 0) (get_or ts i 0) e ∙ sym (get_or-take k ts i 0 later))
-      ∙ elem_get_d (take k ts) i 0 (omega (arith, length-take-le k ts (omega (arith, g.few)))))
+      ∙ elem_get_d (take k ts) i 0 (omega (arith, length-take-le k ts (omega arith))))
       (first_time k less))
       (λ e. e)
 
@@ -120,26 +120,26 @@ module _ (b₀ : List ℕ) (h : Held b₀) (place ts : List ℕ) (n m a : ℕ) (
       ∙ move_nobody a (end_sleeps Woken (take i ts) s) (ending Woken (take i ts) s sound)
 
   -- from there on
-  onwards : (i : ℕ) → n ≤ i → i < n + m → taken s ts n a (i + 1) ≡ move_sleeps a (get_or ts i 0 ∷ []) (taken s ts n a i)
+  onwards : (i : ℕ) → n ≤ i → i < many → taken s ts n a (i + 1) ≡ move_sleeps a (get_or ts i 0 ∷ []) (taken s ts n a i)
   onwards i moves less =
       let u = end_sleeps Woken (take n ts) s in
       let us = take (i - n) (drop n ts) in
       let x = get_or ts i 0 in
-      let size : length (take n ts) ≡ n = length-take-le n ts (omega (arith, g.few)) in
+      let size : length (take n ts) ≡ n = length-take-le n ts (omega arith) in
       let now_all : take i (take n ts) ≡ take n ts = take_all i (take n ts) (omega arith) in
       let then_all : take (i + 1) (take n ts) ≡ take n ts = take_all (i + 1) (take n ts) (omega arith) in
       let more : i + 1 - n ≡ i - n + 1 = omega arith in
       let at : n + (i - n) ≡ i = omega arith in
       let last : get_or (drop n ts) (i - n) 0 ≡ x = get_or-drop n ts (i - n) 0 ∙ ap (λ k. get_or ts k 0) at in
       let all : take (i + 1 - n) (drop n ts) ≡ us ++ (x ∷ []) =
-      ap (λ k. take k (drop n ts)) more ∙ take_next (drop n ts) (i - n) 0 (omega (arith, length-drop n ts, g.few)) ∙ ap (λ t. us ++ (t ∷ [])) last in
+      ap (λ k. take k (drop n ts)) more ∙ take_next (drop n ts) (i - n) 0 (omega (arith, length-drop n ts)) ∙ ap (λ t. us ++ (t ∷ [])) last in
       let both : take i ts ≡ take n ts ++ us = ap (λ k. take k ts) (sym at) ∙ take-add n (i - n) ts in
       let out : (elem x (take n ts) || elem x us) ≡ false = sym (elem_append x (take n ts) us) ∙ ap (elem x) (sym both) ∙ first_time i less in
       (λ j. move_sleeps a (all j) (end_sleeps Woken (then_all j) s))
       ∙ sym (move_next a us x u (or_right (elem x (take n ts)) (elem x us) out) (omega (arith, taken_low i less, (ending Woken (take n ts) s sound).records)))
       ∙ (λ j. move_sleeps a (x ∷ []) (move_sleeps a us (end_sleeps Woken (sym now_all j) s)))
 
-  pub one_start : OneByOne s ts n m a b₀ place 0
+  pub one_start : OneByOne s ts n many a b₀ place 0
   one_start =
       let none : taken s ts n a 0 ≡ s = until 0 (omega arith) ∙ end_nobody Woken s sound in
       record {
@@ -148,7 +148,7 @@ module _ (b₀ : List ℕ) (h : Held b₀) (place ts : List ℕ) (n m a : ℕ) (
         coming = λ k later less. subst (λ u. StandsAt (get_or place (get_or ts k 0 % threads_per_process) 0) (get_or ts k 0) (arrivals u)) (sym none) (stands k less);
       }
 
-  module _ (b at : List ℕ) (i x : ℕ) (o : OneByOne s ts n m a b at i) (on : i < n + m) (named : x ≡ get_or ts i 0) where
+  module _ (b at : List ℕ) (i x : ℕ) (o : OneByOne s ts n many a b at i) (on : i < many) (named : x ≡ get_or ts i 0) where
     abbrev v : State
     v = taken s ts n a i
 
@@ -163,7 +163,7 @@ module _ (b₀ : List ℕ) (h : Held b₀) (place ts : List ℕ) (n m a : ℕ) (
 
     -- those that are still to come, in a list in which they stand as in the one without the thread
     still : (l at' : List ℕ) → ((q t : ℕ) → StandsAt q t (without (x ∷ []) (arrivals v)) → eqb t x ≡ false → StandsAt q t l) → Lowered at out at'
-        → (k : ℕ) → i + 1 ≤ k → k < n + m → StandsAt (get_or at' (get_or ts k 0 % threads_per_process) 0) (get_or ts k 0) l
+        → (k : ℕ) → i + 1 ≤ k → k < many → StandsAt (get_or at' (get_or ts k 0 % threads_per_process) 0) (get_or ts k 0) l
     still l at' kept low k later less =
         let t = get_or ts k 0 in
         let apart : eqb t x ≡ false = rw named (other i k (omega arith) less) in
@@ -186,12 +186,12 @@ module _ (b₀ : List ℕ) (h : Held b₀) (place ts : List ℕ) (n m a : ℕ) (
       one_stands = subst (λ u. StandsAt out x (arrivals u)) (until i (omega arith) ∙ sym back) here
 
       pub one_ends : (b' at' : List ℕ) → b' ≡ tables_bytes (end_sleeps Woken (x ∷ []) (state_at b)) → Lowered at (get_or at (x % threads_per_process) 0) at'
-          → OneByOne s ts n m a b' at' (i + 1)
+          → OneByOne s ts n many a b' at' (i + 1)
       one_ends b' at' new low =
           let u = end_sleeps Woken (take (i + 1) ts) s in
           let next : end_sleeps Woken (x ∷ []) (end_sleeps Woken (take i ts) s) ≡ u =
           end_append present Woken (take i ts) (x ∷ []) s
-          ∙ ap (λ us. end_sleeps Woken us s) (ap (λ t. take i ts ++ (t ∷ [])) named ∙ sym (take_next ts i 0 (omega (arith, g.few)))) in
+          ∙ ap (λ us. end_sleeps Woken us s) (ap (λ t. take i ts ++ (t ∷ [])) named ∙ sym (take_next ts i 0 (omega arith))) in
           let is : u ≡ taken s ts n a (i + 1) = sym (until (i + 1) (omega arith)) in
           let list : without (x ∷ []) (arrivals v) ≡ arrivals u =
           ap (λ (w : State). without (x ∷ []) (arrivals w)) (until i (omega arith)) ∙ sym (arrivals_end present Woken (x ∷ []) (end_sleeps Woken (take i ts) s)) ∙ ap arrivals next in
@@ -212,7 +212,7 @@ module _ (b₀ : List ℕ) (h : Held b₀) (place ts : List ℕ) (n m a : ℕ) (
 
     module _ (moves : n ≤ i) where
       pub one_moves : (b' at' : List ℕ) → MovesOne a x (get_or at (x % threads_per_process) 0) b b' → Lowered at (get_or at (x % threads_per_process) 0) at'
-          → OneByOne s ts n m a b' at' (i + 1)
+          → OneByOne s ts n many a b' at' (i + 1)
       one_moves b' at' new low =
           let is : move_sleeps a (x ∷ []) v ≡ taken s ts n a (i + 1) = ap (λ t. move_sleeps a (t ∷ []) v) named ∙ sym (onwards i moves on) in
           let list : without (x ∷ []) (arrivals v) ++ (x ∷ []) ≡ arrivals (taken s ts n a (i + 1)) = sym (arrivals_move present a (x ∷ []) v) ∙ ap arrivals is in
@@ -222,9 +222,14 @@ module _ (b₀ : List ℕ) (h : Held b₀) (place ts : List ℕ) (n m a : ℕ) (
             coming = still (arrivals (taken s ts n a (i + 1))) at' (λ q t d e. subst (StandsAt q t) list (stands_before x (without (x ∷ []) (arrivals v)) q t d e)) low;
           }
 
-  pub one_all : (b at : List ℕ) (i : ℕ) → OneByOne s ts n m a b at i → i ≡ n + m
-      → b ≡ tables_bytes (move_sleeps a (take m (drop n ts)) (end_sleeps Woken (take n ts) s))
-  one_all b at i o end =
-      let rest : i - n ≡ m = omega arith in
-      let size : length (take n ts) ≡ n = length-take-le n ts (omega (arith, g.few)) in
-      o.bytes ∙ (λ j. tables_bytes (move_sleeps a (take (rest j) (drop n ts)) (end_sleeps Woken (take_all i (take n ts) (omega arith) j) s)))
+-- once all are taken
+pub one_all : (s : State) (es ms : List ℕ) (a : ℕ) (b at : List ℕ) → OneByOne s (es ++ ms) (length es) (length es + length ms) a b at (length es + length ms)
+    → b ≡ tables_bytes (move_sleeps a ms (end_sleeps Woken es s))
+one_all s es ms a b at o =
+    let n = length es in
+    let rest : n + length ms - n ≡ length ms = omega arith in
+    let ended : take (n + length ms) (take n (es ++ ms)) ≡ es =
+    ap (take (n + length ms)) (take-append_seam es ms) ∙ take_all (n + length ms) es (omega arith) in
+    let moved : take (n + length ms - n) (drop n (es ++ ms)) ≡ ms =
+    (λ j. take (rest j) (drop-append_seam es ms j)) ∙ take_all (length ms) ms (omega arith) in
+    o.bytes ∙ (λ j. tables_bytes (move_sleeps a (moved j) (end_sleeps Woken (ended j) s)))

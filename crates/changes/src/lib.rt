@@ -49,12 +49,7 @@ pub fn view_at(b: &[u8; TABLES_SIZE], process: usize, place: [u8; THREADS]) -> V
 }
 
 // Another sleep of a thread: only the columns that hold it are written.
-fn put_sleep(
-    b: &mut [u8; TABLES_SIZE],
-    i: usize,
-    waiting: bool,
-    sleep: Sleep,
-)
+fn put_sleep(b: &mut [u8; TABLES_SIZE], i: usize, waiting: bool, sleep: Sleep)
     requires { i < threads }
     ensures { Writes (at_thread i (with_sleep waiting sleep.uaddr sleep.bitset (is_some sleep.deadline) (stored_deadline (is_some sleep.deadline) (unwrap_or sleep.deadline 0)))) b.old b.new }
 {
@@ -197,28 +192,29 @@ fn move_one(b: &mut [u8; TABLES_SIZE], t: usize, place: u8, uaddr: u32)
     b[LIST_AT + count - 1] = t as u8;
 }
 
-// The first n threads of ts end their sleep as woken, the next m move to the address and to the end of the list, one after the other; place
-// says where each thread of their process stands in it. Of nobody, no byte is written.
+// Some threads of a process end their sleep as woken, others move to the address and to the end of the list, one after the other; place
+// says where each thread of the process stands in it. Of nobody, no byte is written.
 pub fn take(
     b: &mut [u8; TABLES_SIZE],
     place: [u16; State::THREADS_PER_PROCESS],
-    ts: [u16; State::THREADS_PER_PROCESS],
-    n: usize,
-    m: usize,
+    ended: &[u16],
+    moved: &[u16],
     uaddr: u32,
 )
-    requires { Held b.old × Leave place ts (n + m) (state_at b.old) }
-    ensures { b.new ≡ tables_bytes (move_sleeps uaddr (take m (drop n ts)) (end_sleeps Woken (take n ts) (state_at b.old))) }
+    requires { Held b.old × Leave place (ended.now ++ moved.now) (length ended.now + length moved.now) (state_at b.old) }
+    ensures { b.new ≡ tables_bytes (move_sleeps uaddr moved.now (end_sleeps Woken ended.now (state_at b.old))) }
 {
     let mut at = place;
-    for (i, &t) in ts[..n + m].iter().enumerate() {
+    for &t in ended {
         let x = usize::from(t);
         let out = at[x % State::THREADS_PER_PROCESS];
-        if i < n {
-            end_one(b, x, out as u8, LastAnswer::Woken);
-        } else {
-            move_one(b, x, out as u8, uaddr);
-        }
+        end_one(b, x, out as u8, LastAnswer::Woken);
+        at = lowered(at, out);
+    }
+    for &t in moved {
+        let x = usize::from(t);
+        let out = at[x % State::THREADS_PER_PROCESS];
+        move_one(b, x, out as u8, uaddr);
         at = lowered(at, out);
     }
 }

@@ -1,6 +1,10 @@
 -- What a plan leaves: the tables, and apart from them the words.
-use mathlib.Core.Path.{◌≡◌, refl}
-use Prim.Native.Nat.{ℕ}
+use mathlib.Core.Path.{◌≡◌, refl, sym, ap, ◌∙◌}
+use mathlib.Core.List.{◌++◌}
+use Prim.Native.Nat.{ℕ, ◌+◌, ◌≤◌}
+use native.Mathlib.Omega.{arith}
+use lib.ListN.{length, take, length-append}
+use lib.Seq.{length-take-le, take-add, take_all}
 use Rattle.std.specs.Prelude.{Option, Some, None, is_some, unwrap_or}
 use Rattle.tables.specs.declared.State.{State}
 use Rattle.tables.specs.declared.Sleep.{Sleep}
@@ -42,3 +46,15 @@ module _ (c : Call) (d : Take) where
     pub carried_words : (carried c (TakePlan d) w).world.words ≡ (written c d (world (taken_from w.state) w.words)).words
     unfolding carried
     carried_words = refl
+
+-- those that run and those that move, as two lists, are those that are taken
+module _ (d : Take) (fits : d.released + d.moved ≤ length d.taken) where
+  both : released_of d ++ moved_of d ≡ take (d.released + d.moved) d.taken
+  both = sym (take-add d.released d.moved d.taken)
+
+  pub taken_many : length (released_of d) + length (moved_of d) ≡ d.released + d.moved
+  taken_many = sym (length-append (released_of d) (moved_of d)) ∙ ap length both ∙ length-take-le (d.released + d.moved) d.taken fits
+
+  pub taken_all : take (length (released_of d) + length (moved_of d)) (released_of d ++ moved_of d) ≡ take (d.released + d.moved) d.taken
+  taken_all =
+      take_all (length (released_of d) + length (moved_of d)) (released_of d ++ moved_of d) (omega (arith, length-append (released_of d) (moved_of d))) ∙ both

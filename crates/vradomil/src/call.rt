@@ -71,7 +71,13 @@ fn carry_out(
         Plan::Take(d) => {
             put_word(words, c, d);
             let at = column_of(place, c.process as usize);
-            take(b, at, d.taken, d.released, d.moved, c.uaddr2);
+            take(
+                b,
+                at,
+                &d.taken[..d.released],
+                &d.taken[d.released..d.released + d.moved],
+                c.uaddr2,
+            );
             d.count
         }
     }

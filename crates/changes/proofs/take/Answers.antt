@@ -1,71 +1,116 @@
-use mathlib.Core.Path.{◌≡◌, ◌∙◌}
-use Prim.Native.Nat.{◌+◌, ◌<◌}
+use mathlib.Core.Path.{◌≡◌, sym, subst, ◌∙◌}
+use mathlib.Core.List.{List, ◌++◌}
+use Prim.Native.Nat.{ℕ, ◌+◌, ◌≤◌, ◌<◌}
 use native.Mathlib.Omega.{arith}
-use borrow.Author.Rules.{rules}
-use lib.ListN.{length, take, get_or}
-use lib.Seq.{length-take-le, get_or-take}
-use Rattle.tables.specs.Sizes.{threads_per_process}
-use Rattle.changes.proofs.OneByOne.{one_start, one_most, one_held, one_stands, one_ends, one_may_move, one_moves}
+use lib.ListN.{length, length-append, get_or, get_or-append}
+use lib.Seq.{get_or-append-add}
+use Rattle.layout.specs.Layout.{state_at}
+use Rattle.changes.proofs.OneByOne.{OneByOne, one_start, one_most, one_held, one_stands, one_ends, one_may_move, one_moves, one_all}
 use Rattle.changes.proofs.take.Goals as goal
-use Rattle.changes.proofs.take.Goals.{then-i-n, else-i-n, Start, After-from-x}
+use Rattle.changes.proofs.take.Goals.{After-from-x, After-from-x-in-loop-t-2}
 
-long : (c : Start) → length c.args.ts ≡ threads_per_process
-long c = search rules
+long : (es ms : List ℕ) → length es + length ms ≤ length (es ++ ms)
+long es ms = omega (arith, length-append es ms)
 
-all : (c : Start) → length (take (c.args.n + c.args.m) c.args.ts) ≡ c.args.n + c.args.m
-all c = length-take-le (c.args.n + c.args.m) c.args.ts (omega (arith, long c, c.requires.1.few))
-
--- the turn is one of those that are gone through, and the thread is its
-on : (c : After-from-x) → c.loop-i.i < c.args.n + c.args.m
-on c = omega (arith, all (goal.at.After-from-x c).Start)
-
-named : (c : After-from-x) → c.from-x.result ≡ get_or c.args.ts c.loop-i.i 0
-named c = c.from-x.ensures ∙ get_or-take (c.args.n + c.args.m) c.args.ts c.loop-i.i 0 (on c)
-
-pub loop-i-init : goal.loop-i-init
-loop-i-init c =
+pub loop-t-init : goal.loop-t-init
+loop-t-init c =
     let a = c.args in
-    one_start a.b.now c.requires.0 a.place a.ts a.n a.m a.uaddr c.requires.1 (long (goal.at.loop-i-init c).Start)
+    let es = a.ended.now in
+    let ms = a.moved.now in
+    one_start a.b.now c.requires.0 a.place (es ++ ms) (length es) (length es + length ms) a.uaddr c.requires.1 (long es ms)
+
+-- a turn of those that end
+module _ (c : After-from-x) where
+  abbrev es : List ℕ
+  es = c.args.ended.now
+
+  abbrev ms : List ℕ
+  ms = c.args.moved.now
+
+  on : c.loop-t.t-index < length es + length ms
+  on = omega (arith, c.loop-t-test.true)
+
+  named : c.from-x.result ≡ get_or (es ++ ms) c.loop-t.t-index 0
+  named = c.from-x.ensures ∙ sym (get_or-append es ms 0 c.loop-t.t-index c.loop-t-test.true)
+
+-- a turn of those that move
+module _ (c : After-from-x-in-loop-t-2) where
+  abbrev es₂ : List ℕ
+  es₂ = c.args.ended.now
+
+  abbrev ms₂ : List ℕ
+  ms₂ = c.args.moved.now
+
+  on₂ : length es₂ + c.loop-t-2.t-index < length es₂ + length ms₂
+  on₂ = omega (arith, c.loop-t-2-test.true)
+
+  named₂ : c.from-x-in-loop-t-2.result ≡ get_or (es₂ ++ ms₂) (length es₂ + c.loop-t-2.t-index) 0
+  named₂ = c.from-x-in-loop-t-2.ensures ∙ sym (get_or-append-add es₂ ms₂ c.loop-t-2.t-index 0)
 
 -- the place of the thread fits a byte
 pub overflow_cast-out : goal.overflow_cast-out
 overflow_cast-out c =
     let a = c.args in
-    let k = c.loop-i in
+    let k = c.loop-t in
     let t = (goal.at.overflow_cast-out c).After-from-x in
-    omega (arith, one_most a.b.now c.requires.0 a.place a.ts a.n a.m a.uaddr c.requires.1 (long (goal.at.overflow_cast-out c).Start) k.b k.at k.i c.from-x.result k.invariant (on t) (named t))
+    omega (arith, one_most a.b.now c.requires.0 a.place (es t ++ ms t) (length (es t)) (length (es t) + length (ms t)) a.uaddr c.requires.1 (long (es t) (ms t)) k.b k.at k.t-index c.from-x.result k.invariant (on t) (named t))
 
 pub end_one-requires : goal.end_one-requires
 end_one-requires c =
     let a = c.args in
-    let k = c.loop-i in
-    let t = (goal.at.end_one-requires c).After-from-x in
-    let size = long (goal.at.end_one-requires c).Start in (
-      one_held a.b.now c.requires.0 a.place a.ts a.n a.m a.uaddr c.requires.1 size k.b k.at k.i c.from-x.result k.invariant (on t) (named t) c.if-i-n.true,
-      one_stands a.b.now c.requires.0 a.place a.ts a.n a.m a.uaddr c.requires.1 size k.b k.at k.i c.from-x.result k.invariant (on t) (named t) c.if-i-n.true,
+    let k = c.loop-t in
+    let t = (goal.at.end_one-requires c).After-from-x in (
+      one_held a.b.now c.requires.0 a.place (es t ++ ms t) (length (es t)) (length (es t) + length (ms t)) a.uaddr c.requires.1 (long (es t) (ms t)) k.b k.at k.t-index c.from-x.result k.invariant (on t) (named t) c.loop-t-test.true,
+      one_stands a.b.now c.requires.0 a.place (es t ++ ms t) (length (es t)) (length (es t) + length (ms t)) a.uaddr c.requires.1 (long (es t) (ms t)) k.b k.at k.t-index c.from-x.result k.invariant (on t) (named t) c.loop-t-test.true,
     )
 
-pub overflow_cast-out-else-i-n : goal.overflow_cast-out-else-i-n
-overflow_cast-out-else-i-n c =
+pub loop-t-preserved : goal.loop-t-preserved
+loop-t-preserved c =
     let a = c.args in
-    let k = c.loop-i in
-    let t = (goal.at.overflow_cast-out-else-i-n c).After-from-x in
-    omega (arith, one_most a.b.now c.requires.0 a.place a.ts a.n a.m a.uaddr c.requires.1 (long (goal.at.overflow_cast-out-else-i-n c).Start) k.b k.at k.i c.from-x.result k.invariant (on t) (named t))
+    let k = c.loop-t in
+    let t = (goal.at.loop-t-preserved c).After-from-x in
+    one_ends a.b.now c.requires.0 a.place (es t ++ ms t) (length (es t)) (length (es t) + length (ms t)) a.uaddr c.requires.1 (long (es t) (ms t)) k.b k.at k.t-index c.from-x.result k.invariant (on t) (named t) c.loop-t-test.true
+    c.end_one.new.b c.lowered-at.result c.end_one.ensures c.lowered-at.ensures
+
+-- all that end have ended
+pub loop-t-2-init : goal.loop-t-2-init
+loop-t-2-init c =
+    let a = c.args in
+    let k = c.loop-t in
+    let all : k.t-index ≡ length a.ended.now + 0 = omega (arith, c.loop-t-test.false, k.auto.t-index-end) in
+    subst (OneByOne (state_at a.b.now) (a.ended.now ++ a.moved.now) (length a.ended.now) (length a.ended.now + length a.moved.now) a.uaddr k.b k.at) all k.invariant
+
+pub overflow_cast-out-in-loop-t-2 : goal.overflow_cast-out-in-loop-t-2
+overflow_cast-out-in-loop-t-2 c =
+    let a = c.args in
+    let k = c.loop-t-2 in
+    let t = (goal.at.overflow_cast-out-in-loop-t-2 c).After-from-x-in-loop-t-2 in
+    omega (arith, one_most a.b.now c.requires.0 a.place (es₂ t ++ ms₂ t) (length (es₂ t)) (length (es₂ t) + length (ms₂ t)) a.uaddr c.requires.1 (long (es₂ t) (ms₂ t)) k.b k.at (length (es₂ t) + k.t-index) c.from-x-in-loop-t-2.result k.invariant (on₂ t) (named₂ t))
 
 pub move_one-requires : goal.move_one-requires
 move_one-requires c =
     let a = c.args in
-    let k = c.loop-i in
-    let t = (goal.at.move_one-requires c).After-from-x in
-    one_may_move a.b.now c.requires.0 a.place a.ts a.n a.m a.uaddr c.requires.1 (long (goal.at.move_one-requires c).Start) k.b k.at k.i c.from-x.result k.invariant (on t) (named t)
+    let k = c.loop-t-2 in
+    let t = (goal.at.move_one-requires c).After-from-x-in-loop-t-2 in
+    one_may_move a.b.now c.requires.0 a.place (es₂ t ++ ms₂ t) (length (es₂ t)) (length (es₂ t) + length (ms₂ t)) a.uaddr c.requires.1 (long (es₂ t) (ms₂ t)) k.b k.at (length (es₂ t) + k.t-index) c.from-x-in-loop-t-2.result k.invariant (on₂ t) (named₂ t)
 
-pub loop-i-preserved : goal.loop-i-preserved
-loop-i-preserved c =
+pub loop-t-2-preserved : goal.loop-t-2-preserved
+loop-t-2-preserved c =
     let a = c.args in
-    let k = c.loop-i in
-    let t = (goal.at.loop-i-preserved c).After-from-x in
-    let size = long (goal.at.loop-i-preserved c).Start in
-    elim c.if-i-n.branch [
-      | then-i-n w ↦ one_ends a.b.now c.requires.0 a.place a.ts a.n a.m a.uaddr c.requires.1 size k.b k.at k.i c.from-x.result k.invariant (on t) (named t) w.if-i-n.true c.if-i-n.b c.lowered-at.result (w.b-is ∙ w.end_one.ensures) c.lowered-at.ensures
-      | else-i-n w ↦ one_moves a.b.now c.requires.0 a.place a.ts a.n a.m a.uaddr c.requires.1 size k.b k.at k.i c.from-x.result k.invariant (on t) (named t) w.if-i-n.false c.if-i-n.b c.lowered-at.result (λ s l at is. w.b-is ∙ w.move_one.ensures s l at is) c.lowered-at.ensures
-    ]
+    let k = c.loop-t-2 in
+    let t = (goal.at.loop-t-2-preserved c).After-from-x-in-loop-t-2 in
+    let next : length (es₂ t) + k.t-index + 1 ≡ length (es₂ t) + (k.t-index + 1) = omega arith in
+    subst (OneByOne (state_at a.b.now) (es₂ t ++ ms₂ t) (length (es₂ t)) (length (es₂ t) + length (ms₂ t)) a.uaddr c.move_one.new.b c.lowered-at-in-loop-t-2.result) next (
+      one_moves a.b.now c.requires.0 a.place (es₂ t ++ ms₂ t) (length (es₂ t)) (length (es₂ t) + length (ms₂ t)) a.uaddr c.requires.1 (long (es₂ t) (ms₂ t)) k.b k.at (length (es₂ t) + k.t-index) c.from-x-in-loop-t-2.result k.invariant (on₂ t) (named₂ t) (omega arith)
+      c.move_one.new.b c.lowered-at-in-loop-t-2.result c.move_one.ensures c.lowered-at-in-loop-t-2.ensures
+    )
+
+pub returns : goal.returns
+returns c =
+    let a = c.args in
+    let k = c.loop-t-2 in
+    let es = a.ended.now in
+    let ms = a.moved.now in
+    let all : length es + k.t-index ≡ length es + length ms = omega (arith, c.loop-t-2-test.false, k.auto.t-index-end) in
+    one_all (state_at a.b.now) es ms a.uaddr k.b k.at
+    (subst (OneByOne (state_at a.b.now) (es ++ ms) (length es) (length es + length ms) a.uaddr k.b k.at) all k.invariant)
