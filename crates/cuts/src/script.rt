@@ -35,6 +35,7 @@ fn bytes<const N: usize>(input: &mut impl Read) -> io::Result<[u8; N]> {
     Ok(all)
 }
 
+// Stays: here and in the script of edges a line for each width, for the library has no trait of `from_le_bytes`.
 fn byte(input: &mut impl Read) -> io::Result<u8> {
     Ok(u8::from_le_bytes(bytes(input)?))
 }
@@ -43,6 +44,7 @@ fn word(input: &mut impl Read) -> io::Result<u32> {
     Ok(u32::from_le_bytes(bytes(input)?))
 }
 
+// Stays: the endings' numbers and the letters below are the script's alone, and each is matched once, so that a TryFrom is no plainer.
 fn state(input: &mut impl Read) -> Result<ReaderState, ScriptError> {
     let ending = match byte(input)? {
         0 => Ending::Open,

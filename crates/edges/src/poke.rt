@@ -36,6 +36,7 @@ impl Poke {
     }
 }
 
+// Stays: any value is one of the four, so that a TryFrom, which refuses, does not say it, and a From for all of u64 belongs to the script alone.
 fn last_answer(value: u64) -> LastAnswer {
     match value % 4 {
         0 => LastAnswer::NoneYet,

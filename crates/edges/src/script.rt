@@ -25,6 +25,7 @@ fn bytes<const N: usize>(input: &mut impl Read) -> io::Result<[u8; N]> {
     Ok(all)
 }
 
+// Stays: here and in the script of cuts a line for each width, for the library has no trait of `from_le_bytes`.
 fn byte(input: &mut impl Read) -> io::Result<u8> {
     Ok(u8::from_le_bytes(bytes(input)?))
 }
@@ -52,6 +53,7 @@ fn call(input: &mut impl Read) -> io::Result<Call> {
 }
 
 // The next record, of which kinds 1 to 5 are as in a log; none at the end of the script, or at a byte 0, which ends it too.
+// Stays: the kinds are matched as bytes, once; an enum of them would be made by one match and taken apart by another.
 pub(crate) fn next(input: &mut impl Read) -> io::Result<Option<Record>> {
     let record = match byte(input)? {
         0 => return Ok(None),
