@@ -1,12 +1,7 @@
 use Prim.Native.Nat.{◌+◌}
-use native.Mathlib.Omega.{arith}
-use lib.ListN.{length-set}
 use Rattle.text.specs.Text.{word_digits, minus, count_line, refusal_line}
 use Rattle.text.proofs.Puts.{puts_after}
 use Rattle.text.proofs.put_refusal.Goals as goal
-
-pub put_count-requires : goal.put_count-requires
-put_count-requires c = simp length-set (omega arith)
 
 pub returns : goal.returns
 unfolding refusal_line
