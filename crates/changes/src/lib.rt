@@ -35,6 +35,10 @@ pub fn column_of(place: [u8; THREADS], process: usize) -> [u16; State::THREADS_P
 
 // What a call reads of its own process; place says where each thread stands in the arrival list. It is called on tables that keep the
 // rules.
+//
+// Stays: `Held`, here and in six functions below, is no invariant of a type: take and fall_asleep promise what they leave for any address, so
+// that it need not be `Held`, and a `&mut` of such a type could not be handed back without a `requires` more. `Places` and `Leave` speak of two
+// parameters, of which one is lent by `&mut` (end_one, take): no ghost field stands beside both.
 pub fn view_at(b: &[u8; TABLES_SIZE], process: usize, place: [u8; THREADS]) -> View
     requires { Held b.now × ((process < processes) × Places place (arrivals (state_at b.now))) }
     ensures { Views process (state_at b.now) result }
@@ -49,6 +53,8 @@ pub fn view_at(b: &[u8; TABLES_SIZE], process: usize, place: [u8; THREADS]) -> V
 }
 
 // Another sleep of a thread: only the columns that hold it are written.
+//
+// Stays: `waiting` beside the sleep, as in tables' with_sleep.
 fn put_sleep(b: &mut [u8; TABLES_SIZE], i: usize, waiting: bool, sleep: Sleep)
     requires { i < threads }
     ensures { Writes (at_thread i (with_sleep waiting sleep.uaddr sleep.bitset (is_some sleep.deadline) (stored_deadline (is_some sleep.deadline) (unwrap_or sleep.deadline 0)))) b.old b.new }
@@ -70,6 +76,10 @@ fn end_sleep(b: &mut [u8; TABLES_SIZE], i: usize, last: LastAnswer)
 }
 
 // The base priority of a thread. The caller has asked whether the rule allows it: this function does not.
+//
+// Stays: this, take and fall_asleep stand in tables by value. Both promise the same definition (set_priority, move_sleeps, fall_asleep of
+// tables/specs/Tables.antt), of a State and of the bytes where they lie; a trait over both would have a method for each field and list entry that
+// they read or write, and be longer than the three.
 pub fn set_priority(b: &mut [u8; TABLES_SIZE], t: usize, priority: u8)
     requires { t < threads }
     ensures { Writes (set_priority priority t) b.old b.new }

@@ -53,7 +53,9 @@ fn view_of(s: State, process: usize, place: [u8; THREADS]) -> View
 //
 // Stays: plan_of, put_word, carry_out and perform stand in vradomil/src/call.rt once more, on bytes. What they decide is shared already
 // (sleep_plan, take_plan); one generic function over both would take a trait with a method and a ghost member for each line of theirs (clock,
-// view, word, put, fall_asleep, take) and two impls of it, and be longer than the two.
+// view, word, put, fall_asleep, take) and two impls of it, and be longer than the two. `Granted c s words` and `Places place (arrivals s)`
+// speak of three parameters and of two; a type that held them with a ghost field would be made once, by perform, and hold words that
+// carry_out is lent by `&mut`.
 fn plan_of(s: State, words: &[u32], c: Call, place: [u8; THREADS]) -> Plan
     requires { (Granted c s words.now) × Places place (arrivals s) }
     ensures { Planned c (world s words.now) result }
