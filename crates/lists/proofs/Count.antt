@@ -76,9 +76,6 @@ pub counted_next : (n : ℕ) (f : ℕ → Bool) (k one i : ℕ) → Counted n f 
 counted_next n f k one i g more is =
     record { within = omega arith; done = omega (arith, g.done, count_next i f); few = omega (arith, g.few, bit_le (f i)) }
 
-pub counted_all : (n : ℕ) (f : ℕ → Bool) (k i : ℕ) → Counted n f k i → n ≤ i → k ≡ count_below n f
-counted_all n f k i g end = let e : i ≡ n = omega (arith, g.within) in g.done ∙ rw e
-
 -- of a stricter test no more are counted
 pub count_below_weaken : (n : ℕ) (f g : ℕ → Bool) → ((t : ℕ) → f t ≡ true → g t ≡ true) → count_below n f ≤ count_below n g
 unfolding count_below

@@ -4,7 +4,7 @@ use mathlib.Core.Logic.{◌⊎◌, ⊎_elim}
 use Prim.Native.Nat.{ℕ, ◌*◌, ◌≤◌, ◌<◌}
 use native.Mathlib.Nat.{one-mul, zero-mul}
 use native.Mathlib.Omega.{arith}
-use mathlib.Core.Bool.{Bool, true, false, ◌&&◌, ◌||◌, beq, true≢false, not, cond, and_assoc, and_comm, or-false}
+use mathlib.Core.Bool.{Bool, true, false, ◌&&◌, ◌||◌, beq, true≢false, not, cond, and_assoc, and_comm}
 use lib.Dec.{eqb, leb, ltb}
 use borrow.Author.Tests.{eqb-true, eqb-false, eq-eqb, ne_eqb, ltb-true, ltb-false, lt-ltb, le-leb, lt-leb}
 use Rattle.std.specs.Int.{from_bool}
@@ -61,11 +61,6 @@ by_cases w f g = ⊎_elim f g w
 pub never {ℓ} : {P : Type ℓ} → ◌≡◌ {A = ℕ} 0 1 → P
 never e = absurd (omega arith)
 
--- a choice, as code without a branch makes it
-pub by_test : (b d e : Bool) → (not b && e || b && d) ≡ cond b d e
-by_test true d e = refl
-by_test false d e = or-false e
-
 -- a test as a number
 pub bit_le : (b : Bool) → bit b ≤ 1
 bit_le true = omega arith
@@ -75,10 +70,6 @@ bit_le false = omega arith
 pub from_bool_bit : (b : Bool) → from_bool b ≡ bit b
 from_bool_bit true = refl
 from_bool_bit false = refl
-
-pub from_bool_le : (b : Bool) → from_bool b ≤ 1
-from_bool_le true = omega arith
-from_bool_le false = omega arith
 
 pub bit_true : (b : Bool) → 1 ≤ bit b → b ≡ true
 bit_true true h = refl
