@@ -4,7 +4,7 @@ use mathlib.Core.List.{List}
 use Prim.Native.Nat.{ℕ, ◌+◌, ◌≤◌, ◌<◌}
 use native.Mathlib.Omega.{arith}
 use lib.ListN.{length, take, get_or, set, length-set}
-use lib.Seq.{take_all, get_or-set_same, set-set}
+use lib.Seq.{get_or-set_same, set-set}
 use Rattle.tables.specs.declared.State.{State}
 use Rattle.tables.specs.declared.Thread.{Thread}
 use Rattle.tables.specs.declared.Change.{Change}
@@ -50,6 +50,3 @@ module _ (how : Change) (ts : List ℕ) where
       let rs = change (changed_by how) (take i ts) s.threads in
       new (with_threads rs s) (whole_change (changed_by how) (take i ts) s w) (done s w same)
       ∙ ap tables_bytes (changed_next how s (with_threads rs s) ts i x (changed_by how (thread_of (with_threads rs s) x)) more (omega (arith, w.records)) refl is refl)
-
-  pub changed_all : (b₀ b : List ℕ) (i : ℕ) → Changed b₀ b i → length ts ≤ i → Writes (λ s. with_threads (change (changed_by how) ts s.threads) s) b₀ b
-  changed_all b₀ b i done end s w is = done s w is ∙ rw (take_all i ts end)

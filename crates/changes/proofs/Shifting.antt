@@ -9,7 +9,7 @@ use lib.ListN.{length, take, drop, get_or, set, length-drop}
 use lib.Seq.{sets, length-take-le, take-append-le, drop-append-le, get_or-take, get_or-drop, drop-drop, drop-set-lt, set-set}
 use lib.Dec.{ltb}
 use Rattle.lists.proofs.Loops.{take_next, length_snoc}
-use Rattle.lists.proofs.Stores.{Storing, storing_start, storing_next, storing_all, sets_append}
+use Rattle.lists.proofs.Stores.{Storing, storing_next, storing_all, sets_append}
 use Rattle.lists.proofs.Padded.{length_out, get_d_out}
 
 -- n bytes from a place on, without the one at the place p, from 1
@@ -31,9 +31,6 @@ pub record Shifting (b₀ : List ℕ) (at n p : ℕ) (b : List ℕ) (i : ℕ) : 
   pub behind : drop (at + i) b ≡ drop (at + i) b₀
 
 module _ (b₀ : List ℕ) (at n p : ℕ) where
-  pub shifting_start : Shifting b₀ at n p b₀ 0
-  shifting_start = record { storing = storing_start b₀ (out (part b₀ at (n + 1)) p) at; behind = refl }
-
   module _ (first : 1 ≤ p) (last : p ≤ n) (fits : at + n < length b₀) where
     -- the list, and with the byte behind it
     abbrev list : List ℕ

@@ -79,13 +79,13 @@ fn put_word(words: &mut [u32], c: Call, d: Take)
     }
 }
 
-// The first n of some threads, as entries of a list.
-fn entries(ts: [u16; State::THREADS_PER_PROCESS], n: usize) -> [u8; THREADS]
-    requires { (n ≤ threads_per_process) × (all (λ t. ltb t threads) (take n ts) ≡ true) }
-    ensures { take n result ≡ take n ts }
+// Threads of a process, as the first entries of a list.
+fn entries(ts: &[u16]) -> [u8; THREADS]
+    requires { (length ts.now ≤ threads_per_process) × (all (λ t. ltb t threads) ts.now ≡ true) }
+    ensures { take (length ts.now) result ≡ ts.now }
 {
     let mut list = [State::NO_ENTRY; THREADS];
-    for (i, &t) in ts[..n].iter().enumerate() {
+    for (i, &t) in ts.iter().enumerate() {
         list[i] = t as u8;
     }
     list
@@ -107,7 +107,7 @@ fn carry_out(s: State, words: &mut [u32], c: Call, place: [u8; THREADS], d: Plan
         }
         Plan::Take(d) => {
             put_word(words, c, d);
-            let taken = entries(d.taken, d.released + d.moved);
+            let taken = entries(&d.taken[..d.released + d.moved]);
             let next = s.take(
                 place,
                 &taken[..d.released],
