@@ -22,7 +22,7 @@ use layout::{
 use numbers::{put_u32, put_u64, u32_at, u64_at};
 use std::array;
 use tables::{LastAnswer, Sleep, State, THREADS};
-use views::View;
+use views::{SmallView, View};
 
 // Of the places of all threads those of a process.
 pub fn column_of(place: [u8; THREADS], process: usize) -> [u16; State::THREADS_PER_PROCESS]
@@ -39,17 +39,18 @@ pub fn column_of(place: [u8; THREADS], process: usize) -> [u16; State::THREADS_P
 // Stays: `Held`, here and in six functions below, is no invariant of a type: take and fall_asleep promise what they leave for any address, so
 // that it need not be `Held`, and a `&mut` of such a type could not be handed back without a `requires` more. `Places` and `Leave` speak of two
 // parameters, of which one is lent by `&mut` (end_one, take): no ghost field stands beside both.
-pub fn view_at(b: &[u8; TABLES_SIZE], process: usize, place: [u8; THREADS]) -> View
+pub fn view_at(b: &[u8; TABLES_SIZE], process: usize, place: [u8; THREADS]) -> SmallView
     requires { Held b.now × ((process < processes) × Places place (arrivals (state_at b.now))) }
-    ensures { Views process (state_at b.now) result }
+    ensures { Views process (state_at b.now) result.view }
 {
     let base = State::THREADS_PER_PROCESS * process;
-    View {
+    let view = View {
         place: column_of(place, process),
         uaddr: array::from_fn(|i| u32_at(b, UADDR_AT + WORD_SIZE * (base + i))),
         bitset: array::from_fn(|i| u32_at(b, BITSET_AT + WORD_SIZE * (base + i))),
         priority: array::from_fn(|i| u16::from(b[PRIORITY_AT + base + i])),
-    }
+    };
+    SmallView { view }
 }
 
 // Another sleep of a thread: only the columns that hold it are written.

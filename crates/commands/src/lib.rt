@@ -103,6 +103,8 @@ pub fn mask_of(c: Call, given: bool) -> u32
 }
 
 // The record of a thread; of one that does not exist, that of another.
+// Stays: process and index are two numbers, here and wherever they stand side by side, as in Call, Event, the C interface and the theorems
+// about them; a struct of both would be made anew at each call.
 pub fn thread_index(process: u8, index: u8) -> usize
     ensures { result ≡ thread_place process index }
 {

@@ -22,7 +22,7 @@ use rules::answer::{Answer, Answered};
 use rules::event::Call;
 use std::array;
 use tables::{LastAnswer, State, THREADS};
-use views::View;
+use views::{SmallView, View};
 
 // This many, with these tables.
 pub fn counted(n: u32, s: State) -> Answered
@@ -36,17 +36,18 @@ pub fn counted(n: u32, s: State) -> Answered
 
 // What a call reads of its own process; place says where each thread stands in the arrival list. This and the functions below are called
 // by perform, on tables that keep the rules.
-fn view_of(s: State, process: usize, place: [u8; THREADS]) -> View
+fn view_of(s: State, process: usize, place: [u8; THREADS]) -> SmallView
     requires { (tables_ok s ≡ true) × ((process < processes) × Places place (arrivals s)) }
-    ensures { Views process s result }
+    ensures { Views process s result.view }
 {
     let base = State::THREADS_PER_PROCESS * process;
-    View {
+    let view = View {
         place: array::from_fn(|i| u16::from(place[base + i])),
         uaddr: array::from_fn(|i| s.threads[base + i].uaddr),
         bitset: array::from_fn(|i| s.threads[base + i].bitset),
         priority: array::from_fn(|i| u16::from(s.threads[base + i].priority)),
-    }
+    };
+    SmallView { view }
 }
 
 // The plan of a call.

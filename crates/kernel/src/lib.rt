@@ -1,4 +1,6 @@
 // Kernel: the code of every event, proved equal to the rules. It stands on refusals, effects and tables.
+// Stays: each function takes the tables by value beside the words that it is lent, as README has them for a host; a struct of both would be
+// made at each event, for the tables come back in what is answered, and the words do not.
 #![tactic(auto)]
 
 ghost use Rattle.std.specs.Prelude.{◌≡◌};

@@ -86,6 +86,8 @@ fn operand(v: u32) -> u32
 }
 
 // The new word of a defined operation.
+// Stays: the operation is a number, here as in compares, for new_word and compares of rules/specs/WakeOp.antt answer for each number that
+// the field can hold, undefined ones as the last; an enum would be made of it and matched at once.
 #[tactic(auto, unfolding(rules::specs::WakeOp::new_word, rules::specs::WakeOp::operate))]
 pub fn new_word(v: u32, old: u32) -> u32
     ensures { result ≡ new_word v old }

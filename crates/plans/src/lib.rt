@@ -7,7 +7,7 @@ ghost use Rattle.std.specs.Bool.{then_some};
 ghost use Rattle.lists.specs.Lists.{tabulate};
 ghost use Rattle.tables.specs.Sizes.{processes, threads_per_process};
 ghost use Rattle.rules.specs.WakeOp.{new_word, compares};
-ghost use Rattle.views.specs.Views.{Small, by_rank};
+ghost use Rattle.views.specs.Views.{by_rank};
 ghost use Rattle.plans.specs.Plans.{TakesFor, PlannedSleep, PlannedTake};
 
 use arrivals::either;
@@ -15,11 +15,12 @@ use commands::{deadline_of, mask_of, second_cap, timeout_given, uses_by};
 use operations::{compares, new_word};
 use rules::event::Call;
 use tables::{Sleep, State};
-use views::{View, Wanted, at_rank, candidates};
+use views::{SmallView, Wanted, at_rank, candidates};
 
 // Sleepers are taken, by number and in order, of which the first run and the next move to uaddr2, and a word may be written at uaddr2. The
 // count is the answer then.
-#[derive(Clone, Copy)]
+// Stays: an array with the lengths of its two parts, by the rule of fixed memory.
+#[derive(Clone, Copy, Debug, PartialEq, Eq)]
 pub struct Take {
     pub taken: [u16; State::THREADS_PER_PROCESS],
     pub released: usize,
@@ -29,7 +30,7 @@ pub struct Take {
 }
 
 // What a call does: the caller falls asleep, or sleepers are taken.
-#[derive(Clone, Copy)]
+#[derive(Clone, Copy, Debug, PartialEq, Eq)]
 pub enum Plan {
     Sleep(Sleep),
     Take(Take),
@@ -48,6 +49,8 @@ fn rank_for(k: usize, n: usize, from: usize) -> u16
 }
 
 // The first n threads of a process by rank, and m from another rank on.
+// Stays: a number and what it is below, here and below, for Call.process is a number that a row judges (`no_thread`); a type of the numbers below
+// `processes` would come from c.process in each kernel, and take_plan would take it beside c and ask that both are the same.
 fn chosen(
     process: usize,
     rank: [u16; State::THREADS_PER_PROCESS],
@@ -76,9 +79,9 @@ struct Takes {
 
 // Whom a call takes; holds: whether the comparison of a WAKE_OP holds. Of one word's sleepers the first val run, and the next move or, of a
 // WAKE_OP, run too; of two words' the first of each run.
-fn taken_by(v: View, c: Call, holds: bool) -> Takes
-    requires { (c.process < processes) × Small v }
-    ensures { TakesFor c v holds result }
+fn taken_by(v: SmallView, c: Call, holds: bool) -> Takes
+    requires { c.process < processes }
+    ensures { TakesFor c v.view holds result }
 {
     let u = uses_by(c.op);
     let cap2 = either(u.second & (u.moves | holds), second_cap(c) as usize, 0);
@@ -102,6 +105,7 @@ fn taken_by(v: View, c: Call, holds: bool) -> Takes
 }
 
 // What the operation of a WAKE_OP makes of a word, and whether its comparison with the old word holds.
+// Stays: holds is no flag of word, which is written whether the comparison holds or not.
 #[derive(Clone, Copy)]
 struct Operated {
     holds: bool,
@@ -133,11 +137,10 @@ pub fn sleep_plan(c: Call, now: u64) -> Sleep
     }
 }
 
-// The plan of any other call; old: the word at uaddr2. The kernels call it for a process that exists, on the view of tables that keep the
-// rules.
-pub fn take_plan(v: View, c: Call, old: u32) -> Take
-    requires { (c.process < processes) × Small v }
-    ensures { PlannedTake c v old result }
+// The plan of any other call; old: the word at uaddr2. The kernels call it for a process that exists.
+pub fn take_plan(v: SmallView, c: Call, old: u32) -> Take
+    requires { c.process < processes }
+    ensures { PlannedTake c v.view old result }
 {
     let u = uses_by(c.op);
     let operated = operate(u.second & !u.moves, c.val3, old);

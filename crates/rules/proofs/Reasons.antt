@@ -238,7 +238,7 @@ refused_22 e w (Count n) is h = clash true refl (sym h)
 refused_22 e w (Refused x) is h = (x, first_invalid (refusals e w) x (refused_row e w x is) h, refl)
 refused_22 e w (Waiting v) is h = clash true refl (sym h)
 
--- So a number that is -22 and the event alone tell the reason: of a call its arguments, of a store and of the clock there is but one.
+-- So a number that is -22 and a call's arguments alone tell the reason.
 pub reason_told : (e : Event) (w : World) (wrong : Option Reason) → (refuses22 (step e w).answer ≡ true → reason_of (step e w).answer ≡ wrong)
     → cond (refuses22 (step e w).answer) wrong None ≡ reason_of (step e w).answer
 reason_told e w wrong h =
@@ -253,32 +253,6 @@ unfolding refusals rows_in argument_rows
 call_reason c w h =
     let by = refused_22 (CallEvent c) w (step (CallEvent c) w).answer refl h in
     by.2 ∙ sym (rows_refused (λ x. x.reason) (argument_rows (command_of c.op) c) None by.0 by.1)
-
-one_reason : (e : Event) (w : World) (r : Option Reason) → Each (λ q. q ≡ r) (invalid (refusals e w)) → refuses22 (step e w).answer ≡ true
-    → reason_of (step e w).answer ≡ r
-one_reason e w r each h =
-    let by = refused_22 e w (step e w).answer refl h in
-    by.2 ∙ first_tells (λ q. q ≡ r) (invalid (refusals e w)) each by.0 by.1
-
-pub store_reason : (p a v : ℕ) (w : World) → refuses22 (step (Store p a v) w).answer ≡ true → reason_of (step (Store p a v) w).answer ≡ Some UaddrUnaligned
-unfolding refusals
-store_reason p a v w = one_reason (Store p a v) w (Some UaddrUnaligned) ((λ h. refl) and tt)
-
-pub clock_reason : (now : ℕ) (w : World) → refuses22 (step (Clock now) w).answer ≡ true → reason_of (step (Clock now) w).answer ≡ Some ClockBack
-unfolding refusals
-clock_reason now w = one_reason (Clock now) w (Some ClockBack) ((λ h. refl) and tt)
-
-pub priority_reason : (p i n : ℕ) (w : World) → refuses22 (step (SetPriority p i n) w).answer ≡ true
-    → reason_of (step (SetPriority p i n) w).answer ≡ Some PriorityHigh
-unfolding refusals
-priority_reason p i n w = one_reason (SetPriority p i n) w (Some PriorityHigh) ((λ h. refl) and tt)
-
-pub interrupt_reason : (p i : ℕ) (w : World) → reason_of (step (Interrupt p i) w).answer ≡ None
-unfolding refusals
-interrupt_reason p i w =
-    cases (refuses22 (step (Interrupt p i) w).answer)
-    (one_reason (Interrupt p i) w None tt)
-    (λ off. (reason_none (Interrupt p i) w).1 (λ n. clash (refuses22 (step (Interrupt p i) w).answer) (numbers_22 (step (Interrupt p i) w).answer n) off))
 
 lowest_fault : (e : Event) (w : World) → refuses22 (step e w).answer ≡ true
     → IsSomeAnd (reason_of (step e w).answer) (λ r. Fault w r e) × ((q : Reason) → Fault w q e → reason_number (reason_of (step e w).answer) ≤ reason_number (Some q))

@@ -19,6 +19,7 @@ pub enum Command {
 impl From<u32> for Command {
     ghost from_gives = { λ n command. command ≡ numbered n };
 
+    // Stays: here a number becomes a command, and none is carried out; TryFrom is no plainer, for any other number is Unknown.
     fn from(n: u32) -> Command {
         match n {
             0 => Command::Wait,
@@ -34,6 +35,7 @@ impl From<u32> for Command {
 }
 
 // Which arguments a command uses, besides uaddr.
+// Stays: six flags, none with a value beside it: they are a row of the table `uses` of rules/specs/Commands.antt, which theorems read by field.
 #[derive(Clone, Copy, Debug, PartialEq, Eq)]
 pub struct Uses {
     // val as a wake cap

@@ -1,6 +1,6 @@
 -- A view that is read: its columns have what the records r of a process's threads say, and where each stands in the arrival list.
 use mathlib.Core.Path.{◌≡◌, ap, ◌∙◌}
-use mathlib.Core.Bool.{not}
+use mathlib.Core.Bool.{true, not}
 use mathlib.Core.List.{List}
 use Prim.Native.Nat.{ℕ, ◌<◌}
 use native.Mathlib.Omega.{arith}
@@ -14,11 +14,11 @@ use Rattle.arrivals.proofs.Places.{place_absent, place_first, place_most, rising
 use Rattle.tables.specs.declared.State.{State}
 use Rattle.tables.specs.declared.Thread.{Thread}
 use Rattle.tables.specs.Sizes.{processes, threads_per_process, threads}
-use Rattle.tables.specs.Tables.{thread_number, thread_of, arrivals}
+use Rattle.tables.specs.Tables.{thread_number, thread_of, arrivals, tables_ok}
 use Rattle.tables.specs.Steps.{place_of, Places}
-use Rattle.tables.proofs.Sound.{Sound, once, listed_waiting, arrivals_fit}
-use Rattle.views.specs.Views.{Views}
-use Rattle.views.proofs.Ordering.{views_places}
+use Rattle.tables.proofs.Sound.{Sound, tables_sound, once, listed_waiting, arrivals_fit}
+use Rattle.views.specs.Views.{Views, Small}
+use Rattle.views.proofs.Ordering.{views_places, views_small}
 
 -- a thread that has a place is one of the list
 has_place : (t : ℕ) (l : List ℕ) → not (eqb (place_of t l) 0) ≡ elem t l
@@ -56,3 +56,11 @@ module _ (r : ℕ → Thread) (place : List ℕ) (p : ℕ) where
 
       stands : (j : ℕ) → j < threads_per_process → get_or at j 0 ≡ place_of (thread_number p j) (arrivals s)
       stands j l = g.places j l ∙ is (thread_number p j) (low j l)
+
+  -- and its numbers are small
+  pub viewing_small : (s : State) → tables_ok s ≡ true → ((t : ℕ) → t < threads → r t ≡ thread_of s t) → p < processes → Places place (arrivals s)
+      → (at uaddr bitset priority : List ℕ) → Viewing at uaddr bitset priority
+      → Small (record { place = at; uaddr = uaddr; bitset = bitset; priority = priority })
+  viewing_small s ok same own is at uaddr bitset priority g =
+      views_small p s (record { place = at; uaddr = uaddr; bitset = bitset; priority = priority }) ok
+      (viewing_all s (tables_sound s ok) same own is at uaddr bitset priority g)

@@ -29,8 +29,8 @@ use verdicts::verdict_on;
 const ASLEEP: u32 = 2147483647;
 
 // The plan of a call. This and the functions below are called by perform, on a call that was not refused.
-//
-// Stays: plan_at, put_word, carry_out and perform stand in effects by value, and the reason beside plan_of there.
+// Stays: plan_at to perform are on bytes what plan_of to perform of effects are by value, of which the line there says why no generic
+// function is plainer. Passed relates the tables, of which some functions are lent to be written, to three parameters, so no type holds it.
 fn plan_at(b: &[u8; TABLES_SIZE], words: &[u8; WORDS_SIZE], c: Call, place: [u8; THREADS]) -> Plan
     requires { Passed c b.now words.now place }
     ensures { Planned c (world (state_at b.now) (words_at words.now)) result }

@@ -1,5 +1,7 @@
 // Other events: stores, clock events, interrupts, panel queries and set priorities; and fresh tables. The entry point of each gives the
 // answer as a number.
+// Stays: kernel has these events by value; what refuses them is shared (verdicts), and the rest is a read or a store of bytes here and of a
+// field there. Tables, words and the numbers beside them are the parameters of the C interface.
 ghost use Rattle.std.specs.Prelude.{◌≡◌, [], ◌≤◌, ◌<◌, IfOk};
 ghost use Rattle.tables.specs.Sizes.{processes};
 ghost use Rattle.rules.specs.declared.event.Event.TheVariants.{Store, Clock, Interrupt, SetPriority};

@@ -1,4 +1,5 @@
 // Reports: what an event tells beside its number, in bytes that the host lends for it; and the entry points that give them.
+// Stays: each beside the one that has no report, with the parameters that it has, by the C interface.
 ghost use Rattle.std.specs.Prelude.{◌≡◌, cond, ◌∷◌, [], ◌≤◌, None, IfOk};
 ghost use Rattle.std.specs.Int.{w32};
 ghost use Rattle.std.proofs.Common.{SFits};

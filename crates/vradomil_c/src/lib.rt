@@ -1,4 +1,5 @@
 // The library for a host written in C: the entry points of vradomil, exported under their own names, with the same contracts. It stands on vradomil.
+// Stays: each entry point stands here once more, with its parameters, by the C interface.
 #![tactic(auto)]
 
 ghost use Rattle.std.specs.Prelude.{[]};

@@ -6,15 +6,11 @@ use Rattle.tables.specs.Tables.{world}
 use Rattle.rules.specs.Commands.{command_of, uses}
 use Rattle.rules.specs.Calls.{old_word}
 use Rattle.commands.proofs.Places.{word_there}
-use Rattle.views.proofs.Ordering.{views_small}
 use Rattle.effects.proofs.plan_of.Goals as goal
 
 pub returns-then-u : goal.returns-then-u
 returns-then-u c =
     c.sleep_plan.ensures (world c.args.s c.args.words.now) c.requires.0 (sym (ap (λ (x : Uses). x.deadline) c.uses_by-u.ensures) ∙ c.if-u.true) refl
-
-pub take_plan-requires : goal.take_plan-requires
-take_plan-requires c = (c.requires.0.ready.process, views_small c.args.c.process c.args.s c.view_of-v.result c.requires.0.ready.tables c.view_of-v.ensures)
 
 pub returns : goal.returns
 returns c =

@@ -8,7 +8,6 @@ use Rattle.rules.specs.Calls.{old_word}
 use Rattle.commands.proofs.Places.{word_there}
 use Rattle.layout.specs.Layout.{state_at, words_at}
 use Rattle.layout.proofs.Reading.{clock_read}
-use Rattle.views.proofs.Ordering.{views_small}
 use Rattle.vradomil.proofs.call.plan_at.Goals as goal
 
 pub returns-then-uses_by : goal.returns-then-uses_by
@@ -16,11 +15,6 @@ returns-then-uses_by c =
     let b = c.args.b.now in
     c.sleep_plan.ensures (world (state_at b) (words_at c.args.words.now)) c.requires.granted (sym (ap (λ (x : Uses). x.deadline) c.uses_by.ensures) ∙ c.if-uses_by.true)
     (c.u64_at.ensures.0 ∙ clock_read b)
-
-pub take_plan-requires : goal.take_plan-requires
-take_plan-requires c =
-    let s = state_at c.args.b.now in
-    (c.requires.granted.ready.process, views_small c.args.c.process s c.view_at-v.result c.requires.granted.ready.tables c.view_at-v.ensures)
 
 pub returns : goal.returns
 returns c =
