@@ -2,7 +2,7 @@
 ghost use Rattle.std.specs.Prelude.{◌≡◌, ◌&&◌, ◌+◌, ◌*◌, ◌≤◌, take, drop, eqb};
 ghost use Rattle.lists.specs.Lists.{all, every_below, count_below};
 ghost use Rattle.tables.specs.Sizes.{threads, no_entry, word_limit};
-ghost use Rattle.layout.specs.Layout.{list_at};
+ghost use Rattle.layout.specs.Layout.{list_at, state_at};
 ghost use Rattle.layout.specs.Check.{flags_fit, agrees, waits, place_fits, time_ok, time_fits, Checked};
 
 use crate::{
@@ -100,6 +100,20 @@ fn times_ok(b: &[u8; TABLES_SIZE], time: u64) -> bool
     ok
 }
 
+// The passes over the bytes behind the arrival list. Not inlined, for the branch that makes an Option would bring one after each pass.
+#[inline(never)]
+fn rows_ok(b: &[u8; TABLES_SIZE], place: &[u8; THREADS], count: usize) -> bool
+    requires { count ≤ threads }
+    ensures { result ≡ (all (λ e. eqb e no_entry) (drop count (take threads (drop list_at b.now))) && every_below threads (place_fits b.now) && every_below threads (time_fits (state_at b.now).clock b.now) && (every_below threads (λ i. flags_fit b.now i && agrees place.now b.now i) && eqb (count_below threads (waits b.now)) count)) }
+{
+    let tail = tail_ok(b, count);
+    let places = places_ok(b);
+    let clock = u64_at(b, CLOCK_AT);
+    let times = times_ok(b, clock);
+    let flags = flags_ok(b, *place, count);
+    tail & places & times & flags
+}
+
 // The check of the bytes: where each thread stands in the arrival list, if they stand for tables that keep the table rules.
 pub fn sound(b: &[u8]) -> Option<[u8; THREADS]>
     ensures { Checked b.now result }
@@ -110,11 +124,5 @@ pub fn sound(b: &[u8]) -> Option<[u8; THREADS]>
         return None;
     }
     let place = places_in(&b[LIST_AT..LIST_AT + count])?;
-    let tail = tail_ok(b, count);
-    let places = places_ok(b);
-    let clock = u64_at(b, CLOCK_AT);
-    let times = times_ok(b, clock);
-    let flags = flags_ok(b, place, count);
-    let ok = tail & places & times & flags;
-    ok.then_some(place)
+    rows_ok(b, &place, count).then_some(place)
 }

@@ -68,6 +68,7 @@ pub fn vradomil_clock(tables: &mut [u8], words: &[u8], time: u64) -> i32
 }
 
 // A sleeper ends, if the thread is one.
+#[inline(always)]
 pub(crate) fn interrupt(
     tables: &mut [u8],
     words: &[u8],

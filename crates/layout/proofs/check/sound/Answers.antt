@@ -1,4 +1,4 @@
-use mathlib.Core.Path.{◌≡◌, sym, ap, subst, ◌∙◌}
+use mathlib.Core.Path.{◌≡◌, refl, sym, ap, subst, ◌∙◌}
 use mathlib.Core.Bool.{◌&&◌}
 use mathlib.Core.List.{List}
 use Prim.Native.Nat.{ℕ, ◌+◌, ◌-◌}
@@ -6,11 +6,12 @@ use native.Mathlib.Omega.{arith}
 use lib.ListN.{length, take, drop}
 use lib.Dec.{eqb}
 use Rattle.std.specs.Prelude.{Some, None}
+use Rattle.std.specs.Bool.{then_some}
 use Rattle.lists.specs.Lists.{all, every_below, count_below}
 use Rattle.tables.specs.Sizes.{threads, no_entry}
 use Rattle.arrivals.specs.Arrivals.{PlacedIn}
 use Rattle.layout.specs.Layout.{list_at, state_at, tables_size}
-use Rattle.layout.specs.Check.{flags_fit, agrees, waits, time_fits, Checked}
+use Rattle.layout.specs.Check.{flags_fit, agrees, waits, place_fits, time_fits, Checked}
 use Rattle.layout.proofs.Listing.{listed_front}
 use Rattle.layout.proofs.Checks.{refused, wrong_size, wrong_count, wrong_entry, told}
 use Rattle.layout.proofs.check.sound.Goals as goal
@@ -49,12 +50,12 @@ returns c =
     let count = c.u64_at-count.ensures.0 in
     let stored = take threads (drop list_at b) in
     let front = listed_front b n c.if-count-gt-THREADS.false (list_at + n - list_at) (omega arith) ∙ ap (λ m. take m stored) count in
-    subst (λ (l : List ℕ). Checked l c.then_some.result) same (subst (Checked b) (sym c.then_some.ensures)
-    (told b size c.tail_ok-tail.result c.places_ok-places.result c.times_ok-times.result c.flags_ok-flags.result place
+    let listed = every_below threads (λ i. flags_fit b i && agrees place b i) in
+    let flags = λ (m : ℕ). listed && eqb (count_below threads (waits b)) m in
+    let ends = λ (m : ℕ). all (λ e. eqb e no_entry) (drop m stored) in
+    subst (λ (l : List ℕ). Checked l c.then_some.result) same
+    (subst (Checked b) (sym (c.then_some.ensures ∙ ap (λ t. then_some t place) c.rows_ok.ensures))
+    (told b size (ends n) (every_below threads (place_fits b)) (every_below threads (time_fits (state_at b).clock b)) (flags n) place
     (omega (arith, count, c.if-count-gt-THREADS.false))
     (subst (λ (l : List ℕ). PlacedIn l (Some place)) front c.in_ok-place.ensures)
-    (c.tail_ok-tail.ensures ∙ ap (λ m. all (λ e. eqb e no_entry) (drop m stored)) count)
-    c.places_ok-places.ensures
-    (c.times_ok-times.ensures ∙ ap (λ m. every_below threads (time_fits m b)) c.u64_at-clock.ensures.0)
-    (c.flags_ok-flags.ensures ∙ ap (λ m. every_below threads (λ i. flags_fit b i && agrees place b i) && eqb (count_below threads (waits b)) m) count)
-    c.u64_at-count.ensures.1))
+    (ap ends count) refl refl (ap flags count) c.u64_at-count.ensures.1))
