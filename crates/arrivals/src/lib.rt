@@ -45,7 +45,6 @@ pub fn places_in(list: &[u8]) -> Option<[u8; THREADS]>
 }
 
 // The entries past the count name no thread.
-//
 // Stays: layout has its own over the bytes, and the figures of speed beside it.
 pub fn tail_ok(tail: &[u8]) -> bool
     ensures { result ≡ all (λ e. eqb e no_entry) tail.now }
@@ -75,7 +74,6 @@ fn moved_up(place: &mut [u8; THREADS], out: u8)
 }
 
 // The list with others written behind its first count.
-//
 // Stays: a list beside its count, here, in relisted and in Split, is fixed memory without a heap, and State's form: with_arrivals
 // (tables/specs/Tables.antt) pads the list to 64 entries.
 fn joined(mut list: [u8; THREADS], count: usize, others: &[u8]) -> [u8; THREADS]

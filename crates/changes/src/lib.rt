@@ -35,7 +35,6 @@ pub fn column_of(place: [u8; THREADS], process: usize) -> [u16; State::THREADS_P
 
 // What a call reads of its own process; place says where each thread stands in the arrival list. It is called on tables that keep the
 // rules.
-//
 // Stays: `Held`, here and in six functions below, is no invariant of a type: take and fall_asleep promise what they leave for any address, so
 // that it need not be `Held`, and a `&mut` of such a type could not be handed back without a `requires` more. `Places` and `Leave` speak of two
 // parameters, of which one is lent by `&mut` (end_one, take): no ghost field stands beside both.
@@ -54,7 +53,6 @@ pub fn view_at(b: &[u8; TABLES_SIZE], process: usize, place: [u8; THREADS]) -> S
 }
 
 // Another sleep of a thread: only the columns that hold it are written.
-//
 // Stays: `waiting` beside the sleep, as in tables' with_sleep.
 fn put_sleep(b: &mut [u8; TABLES_SIZE], i: usize, waiting: bool, sleep: Sleep)
     requires { i < threads }
@@ -77,7 +75,6 @@ fn end_sleep(b: &mut [u8; TABLES_SIZE], i: usize, last: LastAnswer)
 }
 
 // The base priority of a thread. The caller has asked whether the rule allows it: this function does not.
-//
 // Stays: this, take and fall_asleep stand in tables by value. Both promise the same definition (set_priority, move_sleeps, fall_asleep of
 // tables/specs/Tables.antt), of a State and of the bytes where they lie; a trait over both would have a method for each field and list entry that
 // they read or write, and be longer than the three.
@@ -170,7 +167,6 @@ fn take_out(b: &mut [u8; TABLES_SIZE], place: u8)
 }
 
 // The places of a process once the entry at one of them is taken out.
-//
 // Stays: arrivals has the same map over bytes. One function for both would take its number by a trait with `<`, `- 1` and what they mean, and
 // be longer than the two.
 fn lowered(place: [u16; State::THREADS_PER_PROCESS], out: u16) -> [u16; State::THREADS_PER_PROCESS]

@@ -51,7 +51,6 @@ fn view_of(s: State, process: usize, place: [u8; THREADS]) -> SmallView
 }
 
 // The plan of a call.
-//
 // Stays: plan_of, put_word, carry_out and perform stand in vradomil/src/call.rt once more, on bytes. What they decide is shared already
 // (sleep_plan, take_plan); one generic function over both would take a trait with a method and a ghost member for each line of theirs (clock,
 // view, word, put, fall_asleep, take) and two impls of it, and be longer than the two. `Granted c s words` and `Places place (arrivals s)`

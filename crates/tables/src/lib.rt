@@ -101,7 +101,6 @@ impl Thread {
     }
 
     // Another sleep; whatever else the record holds stays.
-    //
     // Stays: `waiting` beside the sleep. As an Option<Sleep> the two would be taken apart again for five fields that the record holds in both
     // cases, with Sleep::NONE for None.
     fn with_sleep(mut self, waiting: bool, sleep: Sleep) -> Self
@@ -215,7 +214,6 @@ impl State {
     }
 
     // The sleepers whose flag is set end their sleep with the answer. The kernel calls it on tables that keep the rules.
-    //
     // Stays: `tables_ok` in the requires of this, take and fall_asleep is no invariant of a type: a sleep or a move to any address is promised
     // in full, and tables with an address that breaks the rules would be no value of it.
     pub fn end_flagged(self, flags: [bool; THREADS], last: LastAnswer) -> Taken
@@ -269,7 +267,6 @@ impl State {
     }
 
     // A thread, asleep or not, has another base priority.
-    //
     // Stays: that an index names a thread is asked here, in fall_asleep and in changes: a type of such indices would be made of a number at
     // each call and be the number again at each store.
     pub fn set_priority(mut self, t: usize, priority: u8) -> Self
