@@ -69,14 +69,9 @@ def as_built(crate):
     return words
 
 
-def as_source(crates, kit, instead):
-    """The words that name crates and libraries of the kit, and all that they stand on, by their source; `instead` has other folders for some crates."""
-    crates = list(dict.fromkeys(it for crate in crates for it in (*below(crate), crate)))
-    kit = list(dict.fromkeys(['std', *kit, *(it for crate in crates for it in of_kit(crate))]))
-    words = []
-    for crate in crates:
-        uses = dict.fromkeys(['core', 'std', *named(crate)])
-        words += ['--lib', f'{crate}:{",".join(uses)}={instead.get(crate, f"{TOP}/crates/{crate}")}/src/lib.rt']
+def kit_by_source(kit):
+    """The words that name libraries of the kit, and all that they stand on, by their source."""
+    kit, words = list(kit), []
     for name in kit:
         uses = re.findall(r'^dep (\w+)$', read(f'{HOME}/rlibs/{name}.rlib/format'), re.M)
         kit += [it for it in uses if it not in kit]
