@@ -101,8 +101,8 @@ loop-t-2-preserved c =
     let t = (goal.at.loop-t-2-preserved c).After-from-x-in-loop-t-2 in
     let next : length (es₂ t) + k.t-index + 1 ≡ length (es₂ t) + (k.t-index + 1) = omega arith in
     subst (OneByOne (state_at a.b.now) (es₂ t ++ ms₂ t) (length (es₂ t)) (length (es₂ t) + length (ms₂ t)) a.uaddr c.move_one.new.b c.lowered-at-in-loop-t-2.result) next (
-      one_moves a.b.now c.requires.0 a.place (es₂ t ++ ms₂ t) (length (es₂ t)) (length (es₂ t) + length (ms₂ t)) a.uaddr c.requires.1 (long (es₂ t) (ms₂ t)) k.b k.at (length (es₂ t) + k.t-index) c.from-x-in-loop-t-2.result k.invariant (on₂ t) (named₂ t) (omega arith)
-      c.move_one.new.b c.lowered-at-in-loop-t-2.result c.move_one.ensures c.lowered-at-in-loop-t-2.ensures
+    one_moves a.b.now c.requires.0 a.place (es₂ t ++ ms₂ t) (length (es₂ t)) (length (es₂ t) + length (ms₂ t)) a.uaddr c.requires.1 (long (es₂ t) (ms₂ t)) k.b k.at (length (es₂ t) + k.t-index) c.from-x-in-loop-t-2.result k.invariant (on₂ t) (named₂ t) (omega arith)
+    c.move_one.new.b c.lowered-at-in-loop-t-2.result c.move_one.ensures c.lowered-at-in-loop-t-2.ensures
     )
 
 pub returns : goal.returns
