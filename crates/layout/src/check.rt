@@ -21,6 +21,7 @@ const HIGH: u64 = 1 << 32;
 
 // The flags of each thread stand for something, none but a sleeper has a deadline, no priority is above the highest, those wait that have
 // a place in the list, and as many as the list counts.
+// Stays: count is no length of place, but what the number of sleepers is held to.
 fn flags_ok(b: &[u8; TABLES_SIZE], place: [u8; THREADS], count: usize) -> bool
     ensures { result ≡ (every_below threads (λ i. flags_fit b.now i && agrees place b.now i) && eqb (count_below threads (waits b.now)) count) }
 {

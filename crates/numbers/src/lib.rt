@@ -14,6 +14,8 @@ fn bytes_at<const N: usize>(b: &[u8], k: usize) -> [u8; N]
 }
 
 // The number of the four bytes at a place.
+// Stays: a line for each width, here and below, for each contract says its number of bytes, and the library has no trait of from_le_bytes; and
+// a place beside a slice, for the contracts speak of the place.
 pub fn u32_at(b: &[u8], k: usize) -> u32
     requires { k + 4 ≤ length b.now }
     ensures { (result ≡ number_at 4 k b.now) × Bytes b.now }

@@ -24,6 +24,7 @@ fn tested(s: State, words: &[u32]) -> Result<(), Refusal>
 }
 
 // The word at a place, or 0 past the end of the memory.
+// Stays: vradomil has its own on bytes, where a place is always inside; here words may be too few.
 fn word_at(words: &[u32], i: usize) -> u32
     ensures { result ≡ get_or words.now i 0 }
 {

@@ -14,6 +14,7 @@ use tables::{THREADS, WORDS};
 pub(crate) const WORDS_SIZE: usize = WORD_SIZE * WORDS;
 
 // An error that has no reason beside it.
+// Stays: verdicts::refused is this inside an Err; as From<Errno> for Refusal a reason could be lost by a bare `?`.
 fn refused(errno: Errno) -> Refusal
     ensures { result ≡ plain errno }
 {
