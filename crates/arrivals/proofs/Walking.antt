@@ -1,17 +1,17 @@
 -- The walks along the arrival list, turn by turn, however its entries are read: where each thread stands in it, and that the entries past the
 -- count name none.
 use mathlib.Core.Path.{◌≡◌, refl, sym, ap, ◌∙◌}
-use mathlib.Core.Bool.{Bool, true, cond, ◌&&◌, ◌||◌, and-true}
+use mathlib.Core.Bool.{Bool, true, cond, ◌&&◌}
 use mathlib.Core.List.{List, [], ◌∷◌, ◌++◌}
 use Prim.Native.Nat.{ℕ, suc, ◌+◌, ◌-◌, ◌%◌, ◌≤◌, ◌<◌}
 use native.Mathlib.Omega.{arith}
-use lib.ListN.{length, drop, get_or, set, replicate, length-set, drop_of_length-le}
+use lib.ListN.{length, drop, get_or, set, replicate, length-set}
 use lib.Dec.{eqb, ltb}
-use borrow.Author.Tests.{ltb-true, ltb-false}
+use borrow.Author.Tests.{ltb-true}
 use Rattle.lists.specs.Lists.{all}
-use Rattle.lists.proofs.Tests.{cases, and_left, and_right, eqb_refl}
+use Rattle.lists.proofs.Tests.{and_left, and_right, eqb_refl}
 use Rattle.lists.proofs.Filter.{get_d_replicated}
-use Rattle.lists.proofs.Loops.{all_snoc, all_next, stored_at}
+use Rattle.lists.proofs.Loops.{all_snoc, stored_at}
 use Rattle.arrivals.specs.Sizes.{threads, no_entry}
 use Rattle.arrivals.specs.Arrivals.{place_of, Places}
 use Rattle.arrivals.proofs.Places.{place_snoc}
@@ -57,38 +57,3 @@ pub record Ending (list : List ℕ) (count : ℕ) (ok : Bool) (k i : ℕ) : Type
   pub within : i ≤ threads
   pub counted : k ≡ i
   pub done : all is_no_entry (drop count list) ≡ (ok && all is_no_entry (drop (later i count) list))
-
--- one entry more: before the count it is passed over, and from there on tested
-entry_tested : (list : List ℕ) (count : ℕ) (ok : Bool) (i : ℕ) → i < length list
-    → (ok && all is_no_entry (drop (later i count) list)) ≡ (ok && (ltb i count || is_no_entry (get_or list i 0)) && all is_no_entry (drop (later (i + 1) count) list))
-entry_tested list count ok i h = cases (ltb i count)
-    (λ e.
-    let l = ltb-true i count e in
-    let same : later i count ≡ later (i + 1) count = omega arith in
-    rw (e, and-true ok, same))
-    (λ e.
-    let l = ltb-false i count e in
-    let here : later i count ≡ i = omega arith in
-    let next : later (i + 1) count ≡ i + 1 = omega arith in
-    rw (e, here, next) (all_next is_no_entry ok list i 0 h))
-
-module _ (list : List ℕ) (count : ℕ) where
-  pub ending_start : Ending list count true 0 0
-  ending_start =
-      let first : count ≡ later 0 count = omega arith in
-      record { within = omega arith; counted = refl; done = ap (λ n. all is_no_entry (drop n list)) first }
-
-  module _ (ok : Bool) (k i : ℕ) (g : Ending list count ok k i) (long : length list ≡ threads) where
-    pub ending_next : (x : ℕ) → i < threads → x ≡ get_or list i 0 → Ending list count (ok && (ltb k count || eqb x no_entry)) (k + 1) (i + 1)
-    ending_next x more here =
-        record {
-          within = omega arith;
-          counted = ap (◌+ 1) g.counted;
-          done = g.done ∙ entry_tested list count ok i (omega (arith, long))
-              ∙ (λ j. ok && (ltb (sym g.counted j) count || is_no_entry (sym here j)) && all is_no_entry (drop (later (i + 1) count) list));
-        }
-
-    pub ending_all : threads ≤ i → ok ≡ all is_no_entry (drop count list)
-    ending_all end =
-        let past : drop (later i count) list ≡ [] = drop_of_length-le list {i = later i count} (omega (arith, long)) in
-        sym (g.done ∙ ap (λ l. ok && all is_no_entry l) past ∙ and-true ok)

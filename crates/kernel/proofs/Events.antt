@@ -1,25 +1,23 @@
 -- The clock's and an interrupt's sleepers, and the waiting set.
-use mathlib.Core.Path.{◌≡◌, refl, sym, ap, ◌∙◌}
+use mathlib.Core.Path.{◌≡◌, sym, ap, ◌∙◌}
 use mathlib.Core.Bool.{Bool, true, false, not, cond, ◌&&◌, ◌||◌, or-true}
 use mathlib.Core.List.{List}
-use Prim.Native.Nat.{ℕ, zero, suc, ◌+◌, ◌*◌, ◌^◌, ◌≤◌, ◌<◌}
+use Prim.Native.Nat.{ℕ, zero, suc, ◌*◌, ◌^◌, ◌≤◌, ◌<◌}
 use native.Mathlib.Nat.{pow-suc, one-mul, zero-mul}
 use native.Mathlib.Omega.{arith}
-use native.Mathlib.Numerals.{add-one}
-use lib.Pow.{pow_mono}
 use lib.ListN.{length, set, replicate}
 use lib.Dec.{eqb, ltb, leb}
 use borrow.Author.Tests.{ltb-true, ltb-false, lt-leb, le-leb}
 use Rattle.lists.specs.Lists.{filter, bit}
 use Rattle.lists.proofs.Loops.{stored_at}
-use Rattle.lists.proofs.Tests.{cases, clash, and_intro, and_left, and_right, bit_choice, eqb_refl}
+use Rattle.lists.proofs.Tests.{cases, clash, and_intro, and_left, and_right, eqb_refl}
 use Rattle.lists.proofs.Filter.{get_d_replicated}
 use Rattle.lists.proofs.Occurs.{filter_same}
 use Rattle.tables.specs.declared.State.{State}
 use Rattle.tables.specs.declared.Taken.{Taken}
 use Rattle.tables.specs.declared.LastAnswer.TheVariants.{TimedOut, Interrupted}
 use Rattle.rules.specs.declared.answer.Answer.TheVariants.{Count}
-use Rattle.tables.specs.Sizes.{processes, threads_per_process, threads}
+use Rattle.tables.specs.Sizes.{processes, threads}
 use Rattle.tables.specs.Tables.{world, World, thread_of, tables_ok, arrivals, expired, expired_sleepers, with_clock, end_in, end_sleeps}
 use Rattle.tables.specs.Steps.{Flags, flagged, end_flagged}
 use Rattle.rules.specs.Answers.{answered}

@@ -1,23 +1,31 @@
--- The bytes of the fresh tables: zeros, with no entry in the list.
-use mathlib.Core.Path.{◌≡◌, refl, ap, ◌∙◌}
+-- The bytes of the fresh tables: no entry in the list, and zeros.
+use mathlib.Core.Path.{◌≡◌, refl, sym, ap, ◌∙◌}
+use mathlib.Core.Bool.{cond, ◌&&◌}
 use mathlib.Core.List.{List, flatten}
-use Prim.Native.Nat.{ℕ}
-use borrow.Rule.Slice.PartMut.{put_mid}
-use lib.ListN.{length, replicate, take, drop}
-use Rattle.tables.specs.Sizes.{threads, no_entry}
+use Prim.Native.Nat.{ℕ, ◌<◌}
+use native.Mathlib.Omega.{arith}
+use lib.ListN.{length, get_or}
+use Rattle.std.proofs.lemmas.List.{ext_get_or}
+use lib.Dec.{leb, ltb}
+use Rattle.lists.specs.Lists.{tabulate}
+use Rattle.lists.proofs.Tabulate.{get_d_tabulate}
+use Rattle.tables.specs.Sizes.{no_entry}
 use Rattle.tables.specs.Tables.{fresh_in, fresh}
-use Rattle.layout.specs.Layout.{tables_bytes, tables_size, list_at}
+use Rattle.layout.specs.Layout.{tables_bytes, tables_size, list_at, waiting_at}
 
--- zeros everywhere, and then no entry in the list
-abbrev blank : ℕ → List ℕ → List ℕ
-blank n zeros = put_mid list_at threads zeros (replicate n no_entry)
+abbrev pub laid : ℕ → ℕ
+laid i = cond (leb list_at i && ltb i waiting_at) no_entry 0
 
-laid : blank threads (replicate tables_size 0) ≡ tables_bytes fresh
+all_laid : tables_bytes fresh ≡ tabulate tables_size laid
 unfolding tables_bytes fresh_in flatten
-laid = refl
+all_laid = refl
 
-pub laid_down : (b zeros none : List ℕ) → length b ≡ tables_size → zeros ≡ replicate (length b) 0
-    → none ≡ replicate (length (take threads (drop list_at zeros))) no_entry → put_mid list_at threads zeros none ≡ tables_bytes fresh
-laid_down b zeros none long zero entry =
-    let zero = zero ∙ ap (λ n. replicate n 0) long in
-    ap (put_mid list_at threads zeros) entry ∙ ap (λ l. blank (length (take threads (drop list_at l))) l) zero ∙ laid
+pub fresh_size : length (tables_bytes fresh) ≡ tables_size
+unfolding tables_bytes fresh_in flatten
+fresh_size = refl
+
+pub fresh_byte : (i : ℕ) → i < tables_size → laid i ≡ get_or (tables_bytes fresh) i 0
+fresh_byte i low = sym (ap (λ l. get_or l i 0) all_laid ∙ get_d_tabulate tables_size laid i 0 low)
+
+pub laid_down : (b : List ℕ) → length b ≡ tables_size → ((i : ℕ) → i < tables_size → get_or b i 0 ≡ laid i) → b ≡ tables_bytes fresh
+laid_down b long each = ext_get_or 0 b (tables_bytes fresh) (long ∙ sym fresh_size) (λ i h. each i (omega (arith, long)) ∙ fresh_byte i (omega (arith, long)))

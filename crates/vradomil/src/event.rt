@@ -12,6 +12,7 @@ ghost use Rattle.vradomil.specs.Host.{ChangesWords, ChangesTables, WordsTold, Ta
 
 use crate::answer::{number, refusal};
 use crate::buffers::judge_buffers;
+use arrivals::either;
 use changes::{end_due, end_one};
 use commands::{thread_index, word_index};
 use layout::check::sound;
@@ -166,7 +167,9 @@ pub fn vradomil_fresh(tables: &mut [u8]) -> i32
     if tables.len() != TABLES_SIZE {
         return refusal(Errno::EBADF);
     }
-    tables.fill(0);
-    tables[LIST_AT..WAITING_AT].fill(State::NO_ENTRY);
+    // Stays: byte by byte, for by fill the archive would take memset from outside.
+    for (i, b) in tables.iter_mut().enumerate() {
+        *b = either((LIST_AT <= i) & (i < WAITING_AT), State::NO_ENTRY, 0);
+    }
     0
 }

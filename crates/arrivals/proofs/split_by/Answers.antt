@@ -3,12 +3,9 @@ use lib.Seq.{length-take-le, take_all}
 use Rattle.lists.proofs.Loops.{take_next}
 use Rattle.arrivals.specs.Sizes.{threads}
 use Rattle.arrivals.specs.Arrivals.{flagged, split_of}
-use Rattle.arrivals.proofs.Splitting.{splitting_start, splitting_taken, splitting_left, splitting_all, part_few}
+use Rattle.arrivals.proofs.Splitting.{splitting_taken, splitting_left, splitting_all, part_few}
 use Rattle.arrivals.proofs.split_by.Goals as goal
 use Rattle.arrivals.proofs.split_by.Goals.{After-index_of, then-flags-index_of, else-flags-index_of}
-
-pub loop-e-init : goal.loop-e-init
-loop-e-init c = splitting_start (flagged c.args.flags)
 
 -- an entry is left to look at, so that both arrays have room
 module _ (c : After-index_of) where

@@ -5,7 +5,7 @@ use native.Mathlib.Omega.{arith}
 use lib.ListN.{length, length-append, get_or, get_or-append}
 use lib.Seq.{get_or-append-add}
 use Rattle.layout.specs.Layout.{state_at}
-use Rattle.changes.proofs.OneByOne.{OneByOne, one_start, one_most, one_held, one_stands, one_ends, one_may_move, one_moves, one_all}
+use Rattle.changes.proofs.OneByOne.{OneByOne, one_start, one_most, one_held, one_stands, one_ends, one_may_move, one_moves}
 use Rattle.changes.proofs.take.Goals as goal
 use Rattle.changes.proofs.take.Goals.{After-from-x, After-from-x-in-loop-t-2}
 
@@ -73,13 +73,6 @@ loop-t-preserved c =
     c.end_one.new.b c.lowered-at.result c.end_one.ensures c.lowered-at.ensures
 
 -- all that end have ended
-pub loop-t-2-init : goal.loop-t-2-init
-loop-t-2-init c =
-    let a = c.args in
-    let k = c.loop-t in
-    let all : k.t-index ≡ length a.ended.now + 0 = omega (arith, c.loop-t-test.false, k.auto.t-index-end) in
-    subst (OneByOne (state_at a.b.now) (a.ended.now ++ a.moved.now) (length a.ended.now) (length a.ended.now + length a.moved.now) a.uaddr k.b k.at) all k.invariant
-
 pub overflow_cast-out-in-loop-t-2 : goal.overflow_cast-out-in-loop-t-2
 overflow_cast-out-in-loop-t-2 c =
     let a = c.args in
@@ -104,13 +97,3 @@ loop-t-2-preserved c =
     one_moves a.b.now c.requires.0 a.place (es₂ t ++ ms₂ t) (length (es₂ t)) (length (es₂ t) + length (ms₂ t)) a.uaddr c.requires.1 (long (es₂ t) (ms₂ t)) k.b k.at (length (es₂ t) + k.t-index) c.from-x-in-loop-t-2.result k.invariant (on₂ t) (named₂ t) (omega arith)
     c.move_one.new.b c.lowered-at-in-loop-t-2.result c.move_one.ensures c.lowered-at-in-loop-t-2.ensures
     )
-
-pub returns : goal.returns
-returns c =
-    let a = c.args in
-    let k = c.loop-t-2 in
-    let es = a.ended.now in
-    let ms = a.moved.now in
-    let all : length es + k.t-index ≡ length es + length ms = omega (arith, c.loop-t-2-test.false, k.auto.t-index-end) in
-    one_all (state_at a.b.now) es ms a.uaddr k.b k.at
-    (subst (OneByOne (state_at a.b.now) (es ++ ms) (length es) (length es + length ms) a.uaddr k.b k.at) all k.invariant)

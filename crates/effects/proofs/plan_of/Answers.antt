@@ -1,4 +1,4 @@
-use mathlib.Core.Path.{◌≡◌, refl, sym, ap, ◌∙◌}
+use mathlib.Core.Path.{◌≡◌, sym, ap, ◌∙◌}
 use mathlib.Core.Bool.{true}
 use lib.ListN.{get_or}
 use Rattle.rules.specs.declared.event.Uses.{Uses}
@@ -7,10 +7,6 @@ use Rattle.rules.specs.Commands.{command_of, uses}
 use Rattle.rules.specs.Calls.{old_word}
 use Rattle.commands.proofs.Places.{word_there}
 use Rattle.effects.proofs.plan_of.Goals as goal
-
-pub returns-then-u : goal.returns-then-u
-returns-then-u c =
-    c.sleep_plan.ensures (world c.args.s c.args.words.now) c.requires.0 (sym (ap (λ (x : Uses). x.deadline) c.uses_by-u.ensures) ∙ c.if-u.true) refl
 
 pub returns : goal.returns
 returns c =

@@ -1,4 +1,3 @@
-use mathlib.Core.Path.{sym}
 use Rattle.rules.specs.declared.event.Event.TheVariants.{Call as CallEvent}
 use Rattle.rules.specs.Events.{effect}
 use Rattle.kernel.proofs.Calls.{granted}

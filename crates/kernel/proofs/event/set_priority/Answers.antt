@@ -5,13 +5,10 @@ use Rattle.rules.specs.declared.answer.Answer.TheVariants.{Count}
 use Rattle.tables.specs.Tables.{set_priority}
 use Rattle.rules.specs.Calls.{no_thread}
 use Rattle.rules.specs.Events.{refusals, effect}
-use Rattle.commands.proofs.Places.{thread_below, thread_there}
+use Rattle.commands.proofs.Places.{thread_there}
 use Rattle.rules.proofs.Passed.{thread_process, thread_index}
 use Rattle.kernel.proofs.Steps.{cleared, follows_refused, follows_passed}
 use Rattle.kernel.proofs.event.set_priority.Goals as goal
-
-pub set_priority-requires : goal.set_priority-requires
-set_priority-requires c = thread_below _ _ c.thread_index-t.ensures
 
 pub returns-in-Err : goal.returns-in-Err
 returns-in-Err c =

@@ -1,7 +1,4 @@
-use mathlib.Core.Path.{◌≡◌, refl, ap, ◌∙◌}
 use native.Mathlib.Omega.{arith}
-use Rattle.tables.specs.Sizes.{threads_per_process}
-use Rattle.rules.specs.Events.{bits_below, waiting_in}
 use Rattle.kernel.proofs.Panels.{bit_set}
 use Rattle.kernel.proofs.event.waiting_set.Invariants.{waits}
 use Rattle.kernel.proofs.event.waiting_set.Goals as goal

@@ -1,12 +1,11 @@
-use mathlib.Core.Path.{◌≡◌, refl, sym, ap, ◌∙◌}
-use mathlib.Core.Bool.{Bool, true, false, ◌&&◌}
+use mathlib.Core.Path.{◌≡◌, refl, sym, ◌∙◌}
+use mathlib.Core.Bool.{Bool, true, false}
 use Prim.Native.Nat.{◌+◌}
 use native.Mathlib.Omega.{arith}
-use lib.Dec.{eqb}
 use Rattle.std.specs.Int.{from_bool}
 use Rattle.lists.specs.Lists.{bit, count_below}
 use Rattle.lists.proofs.Tests.{bit_le}
-use Rattle.lists.proofs.Count.{count_next, tested_start, tested_next, tested_all, count_below_le}
+use Rattle.lists.proofs.Count.{count_next, tested_start, tested_next, count_below_le}
 use Rattle.tables.specs.Sizes.{threads}
 use Rattle.layout.specs.Check.{waits}
 use Rattle.layout.proofs.check.flags_ok.Invariants.{fits}
@@ -33,11 +32,3 @@ loop-i-preserved c =
       tested = tested_next threads (fits c.args.b.now c.args.place) k.ok _ k.i k.invariant.tested (omega arith) refl;
       counted = (λ j. k.invariant.counted j + (c.from-n.ensures ∙ as_bit (w k.i)) j) ∙ sym (count_next k.i w);
     }
-
-pub returns : goal.returns
-returns c =
-    let k = c.loop-i in
-    let b = c.args.b.now in
-    let end : k.i ≡ threads = omega (arith, k.invariant.tested.within) in
-    let number = c.from.ensures ∙ k.invariant.counted ∙ ap (λ m. count_below m (waits b)) end in
-    (λ j. tested_all threads (fits b c.args.place) k.ok k.i k.invariant.tested (omega arith) j && eqb (number j) c.args.count)

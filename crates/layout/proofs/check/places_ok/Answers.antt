@@ -2,7 +2,7 @@ use mathlib.Core.Path.{ap, ◌∙◌}
 use mathlib.Core.Bool.{not, beq}
 use native.Mathlib.Omega.{arith}
 use lib.Dec.{eqb}
-use Rattle.lists.proofs.Count.{tested_start, tested_all}
+use Rattle.lists.proofs.Count.{tested_start}
 use Rattle.tables.specs.Sizes.{threads}
 use Rattle.layout.specs.Check.{place_ok, place_fits}
 use Rattle.layout.specs.Layout.{thread_at}
@@ -22,8 +22,3 @@ loop-i-preserved c =
     let good = beq (not (eqb m 0)) w in
     gathered_next threads (place_fits b) o.ok good o.stray c.either-stray.result o.all a o.i o.invariant (omega arith)
     (ap (λ s. gathered good s a) c.either-stray.ensures ∙ gathered_one w a m ∙ (λ j. place_ok w (c.u32_at-uaddr.ensures.0 j) (c.u32_at-bitset.ensures.0 j)))
-
-pub returns : goal.returns
-returns c =
-    let k = c.loop-i in
-    tested_all threads (place_fits c.args.b.now) (gathered k.ok k.stray k.all) k.i k.invariant (omega arith)

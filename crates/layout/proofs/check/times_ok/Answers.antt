@@ -1,7 +1,7 @@
 use mathlib.Core.Path.{◌≡◌, ◌∙◌}
 use Prim.Native.Nat.{◌+◌, ◌*◌, ◌/◌, ◌%◌}
 use native.Mathlib.Omega.{arith}
-use Rattle.lists.proofs.Count.{tested_start, tested_next, tested_all}
+use Rattle.lists.proofs.Count.{tested_start, tested_next}
 use Rattle.lists.proofs.LittleEndian.{number_split}
 use Rattle.tables.specs.Sizes.{threads, word_bytes, word_limit}
 use Rattle.layout.specs.Check.{time_ok, time_fits}
@@ -22,7 +22,3 @@ loop-i-preserved c =
     omega (arith, number_split word_bytes word_bytes (deadline_at + time_bytes * i) b (omega arith), c.u32_at-dlow.ensures.0, c.u32_at-dhigh.ensures.0) in
     tested_next threads (time_fits time b) c.loop-i.ok c.time_ok-ok.result i c.loop-i.invariant (omega arith)
     (c.time_ok-ok.ensures ∙ (λ j. time_ok (at j) r.timed (due j)))
-
-pub returns : goal.returns
-returns c =
-    tested_all threads (time_fits c.args.time c.args.b.now) c.loop-i.ok c.loop-i.i c.loop-i.invariant (omega arith)

@@ -10,7 +10,7 @@ use Rattle.tables.specs.Tables.{world, thread_number, end_sleeps, move_sleeps}
 use Rattle.rules.specs.Answers.{Outcome}
 use Rattle.layout.specs.Layout.{state_at, tables_bytes, words_at, words_bytes}
 use Rattle.layout.proofs.Exact.{words_exact}
-use Rattle.commands.proofs.Places.{thread_below, thread_there}
+use Rattle.commands.proofs.Places.{thread_there}
 use Rattle.plans.specs.declared.Take.{Take}
 use Rattle.plans.specs.Plans.{released_of, moved_of}
 use Rattle.plans.proofs.Carried.{taken_from, carried_asleep, carried_answer, carried_state, carried_words, taken_many, taken_all}
@@ -18,12 +18,6 @@ use Rattle.vradomil.specs.Host.{host_number}
 use Rattle.vradomil.proofs.Steps.{leaves_by}
 use Rattle.vradomil.proofs.call.carry_out.Goals as goal
 use Rattle.vradomil.proofs.call.carry_out.Goals.{After-column_of-at}
-
-pub fall_asleep-requires : goal.fall_asleep-requires
-fall_asleep-requires c =
-    let g = c.requires.0 in
-    let at = c.thread_index-t.ensures in
-    (g.held, (thread_below _ _ at, rw (thread_there _ _ at g.granted.ready.process g.granted.ready.index) g.granted.ready.runs))
 
 pub returns-in-Sleep : goal.returns-in-Sleep
 returns-in-Sleep c =
@@ -41,14 +35,6 @@ returns-in-Sleep c =
       }),
       words_exact memory_words m c.requires.0.long c.fits-words ∙ ap (λ (o : Outcome). words_bytes o.world.words) is,
     )
-
-pub put_word-requires : goal.put_word-requires
-put_word-requires c =
-    let g = c.requires in
-    (g.0.granted.ready.process, λ e. g.0.granted.second (g.1.second c.in-Take.d c.in-Take.is e))
-
-pub column_of-at-requires : goal.column_of-at-requires
-column_of-at-requires c = c.requires.0.granted.ready.process
 
 -- those that end and those that move are those of the plan
 module _ (c : After-column_of-at) where

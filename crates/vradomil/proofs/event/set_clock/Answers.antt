@@ -48,9 +48,6 @@ returns-in_err-invalid-clause-told c =
     (verdict at.After-u64_at-clock (judged at.After-unwrap-tables) ∙ sym c.in_err-invalid.ensures) c.from_residual-in_err-invalid.result
     c.from_residual-in_err-invalid.ensures.1 (search rules))
 
-pub end_due-n-requires : goal.end_due-n-requires
-end_due-n-requires c = (judged (goal.at.end_due-n-requires c).After-unwrap-tables).held refl
-
 pub returns-clause-told : goal.returns-clause-told
 unfolding effect
 returns-clause-told c =
