@@ -27,6 +27,40 @@ impl<R: Read> Reader<R> {
             end: 0,
         }
     }
+
+    // Sees that so many bytes are here; where fewer are, the reader has no more.
+    #[inline(always)]
+    pub(crate) fn fill(&mut self, n: usize) -> io::Result<()> {
+        if n <= self.end - self.at {
+            return Ok(());
+        }
+        self.bytes.copy_within(self.at..self.end, 0);
+        self.end -= self.at;
+        self.at = 0;
+        self.ask(n)
+    }
+
+    fn ask(&mut self, n: usize) -> io::Result<()> {
+        for _ in 0..n {
+            match self.inner.read(&mut self.bytes[self.end..])? {
+                0 => break,
+                got => self.end += got,
+            }
+            if n <= self.end {
+                break;
+            }
+        }
+        Ok(())
+    }
+
+    pub(crate) fn here(&self) -> &[u8] {
+        &self.bytes[self.at..self.end]
+    }
+
+    // Passes over bytes that are here.
+    pub(crate) fn pass(&mut self, n: usize) {
+        self.at += n.min(self.end - self.at);
+    }
 }
 
 impl<R: Read> Read for Reader<R> {
@@ -71,6 +105,20 @@ impl<W: Write> Write for Writer<W> {
         self.bytes[self.len..self.len + n].copy_from_slice(&text[..n]);
         self.len += n;
         Ok(n)
+    }
+
+    // A text for which there is no room waits until what is there is written, and one that is longer than the buffer doesn't go through it.
+    #[inline(always)]
+    fn write_all(&mut self, text: &[u8]) -> io::Result<()> {
+        if SIZE - self.len < text.len() {
+            self.flush()?;
+        }
+        if SIZE - self.len < text.len() {
+            return self.inner.write_all(text);
+        }
+        self.bytes[self.len..self.len + text.len()].copy_from_slice(text);
+        self.len += text.len();
+        Ok(())
     }
 
     fn flush(&mut self) -> io::Result<()> {

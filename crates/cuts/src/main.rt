@@ -1,7 +1,7 @@
 // Cuts: runs a script of pieces on the reader of logs, and prints what came of each. It stands on pieces.
 #![tactic(auto)]
 
-ghost use Rattle.std.specs.Prelude.{◌≤◌};
+ghost use Rattle.std.specs.Prelude.{◌≤◌, length};
 ghost use Rattle.cuts.specs.declared.TheConstants.{LONGEST_LOG};
 
 mod buffers;
@@ -9,8 +9,9 @@ mod print;
 mod script;
 mod sum;
 
+use buffers::{Reader, Writer};
 use pieces::{Fed, ReaderState, Told, feed, over, start};
-use script::{Command, ScriptError};
+use script::{Command, LONGEST, STATE, ScriptError};
 use std::io::{self, Read, Write};
 use sum::Seen;
 
@@ -43,37 +44,44 @@ impl Machine {
     fn obey(
         &mut self,
         command: Command,
-        input: &mut impl Read,
+        input: &mut Reader<impl Read>,
         out: &mut impl Write,
     ) -> Result<(), ScriptError> {
-        match command {
+        let (seen, told) = match command {
             Command::Log(n) => {
                 let len = n as usize;
                 let room = self.log.get_mut(..len).ok_or(ScriptError::Bad)?;
                 input.read_exact(room)?;
                 self.len = len;
+                return Ok(());
             }
-            Command::New => self.reader = start(),
-            Command::State(reader) => self.reader = reader,
+            Command::New => {
+                self.reader = start();
+                return Ok(());
+            }
+            Command::State => {
+                input.fill(STATE)?;
+                self.reader = script::state(input.here()).ok_or(ScriptError::Bad)?;
+                input.pass(STATE);
+                return Ok(());
+            }
             Command::Piece { from, to } => {
                 let log = &self.log[..self.len];
                 let piece = log.get(from as usize..to as usize).ok_or(ScriptError::Bad)?;
-                let (seen, told) = fed(self.reader, piece);
-                self.reader = told.state;
-                print::line(out, seen, told)?;
+                fed(self.reader, piece)
             }
-            Command::Over => {
-                let told = over(self.reader);
-                self.reader = told.state;
-                print::line(out, Seen::default(), told)?;
-            }
-        }
+            Command::Over => (Seen::default(), over(self.reader)),
+        };
+        print::line(out, seen, told)?;
+        self.reader = told.state;
         Ok(())
     }
 }
 
 // The events of a piece, and how the log stands once there are no more.
-fn fed(mut reader: ReaderState, piece: &[u8]) -> (Seen, Told) {
+fn fed(mut reader: ReaderState, piece: &[u8]) -> (Seen, Told)
+    ensures { result.0.events ≤ length piece.now }
+{
     let mut seen = Seen::default();
     let mut place = 0;
     loop {
@@ -87,20 +95,23 @@ fn fed(mut reader: ReaderState, piece: &[u8]) -> (Seen, Told) {
     }
 }
 
-fn play(input: &mut impl Read, out: &mut impl Write) -> Result<(), ScriptError> {
+fn play(input: &mut Reader<impl Read>, out: &mut impl Write) -> Result<(), ScriptError> {
     let mut machine = Machine::fresh();
     for _ in 0..COMMANDS {
-        let Some(command) = script::next(input)? else {
+        input.fill(LONGEST)?;
+        if input.here().is_empty() {
             break;
-        };
+        }
+        let (command, length) = script::next(input.here()).ok_or(ScriptError::Bad)?;
+        input.pass(length);
         machine.obey(command, input, out)?;
     }
     Ok(())
 }
 
 fn main(rt: HostRuntime) -> io::Result<()> {
-    let mut input = buffers::Reader::new(rt.stdin());
-    let mut out = buffers::Writer::new(io::writer(&rt));
+    let mut input = Reader::new(rt.stdin());
+    let mut out = Writer::new(io::writer(&rt));
     match play(&mut input, &mut out) {
         Ok(()) => {}
         Err(ScriptError::Bad) => out.write_all(b"bad script\n")?,

@@ -1,13 +1,22 @@
 // Scripts: commands of a letter and a body, numbers little-endian; second/README.md describes them.
-use pieces::{Ending, ReaderState};
-use std::io::{self, ErrorKind, Read};
+ghost use Rattle.std.specs.Prelude.{◌≤◌};
+
+use pieces::{Ending, HELD, ReaderState};
+use std::io::{self, ErrorKind};
+
+// A letter, and the longest body: a piece's two places.
+pub(crate) const LONGEST: usize = 9;
+
+// A state's ending, count and held bytes.
+pub(crate) const STATE: usize = 2 + HELD;
 
 #[derive(Clone, Copy)]
 pub(crate) enum Command {
     // a log of so many bytes, which come behind the command
     Log(u32),
     New,
-    State(ReaderState),
+    // a state, which comes behind the command
+    State,
     Piece { from: u32, to: u32 },
     Over,
 }
@@ -19,7 +28,7 @@ pub(crate) enum ScriptError {
     Io(io::Error),
 }
 
-// A command that is cut shows as an input that ends too early.
+// A log that is cut shows as an input that ends too early.
 impl From<io::Error> for ScriptError {
     fn from(e: io::Error) -> Self {
         match e.kind() {
@@ -29,52 +38,48 @@ impl From<io::Error> for ScriptError {
     }
 }
 
-fn bytes<const N: usize>(input: &mut impl Read) -> io::Result<[u8; N]> {
-    let mut all = [0; N];
-    input.read_exact(&mut all)?;
-    Ok(all)
+// The bytes at a place of what is here; none where it ends before.
+fn bytes<const N: usize>(here: &[u8], at: usize) -> Option<[u8; N]>
+    requires { at ≤ 5 }
+{
+    <[u8; N]>::try_from(here.get(at..at + N)?).ok()
 }
 
-// Stays: here and in the script of edges a line for each width, for the library has no trait of `from_le_bytes`.
-fn byte(input: &mut impl Read) -> io::Result<u8> {
-    Ok(u8::from_le_bytes(bytes(input)?))
-}
-
-fn word(input: &mut impl Read) -> io::Result<u32> {
-    Ok(u32::from_le_bytes(bytes(input)?))
+fn word(here: &[u8], at: usize) -> Option<u32>
+    requires { at ≤ 5 }
+{
+    Some(u32::from_le_bytes(bytes(here, at)?))
 }
 
 // Stays: the endings' numbers and the letters below are the script's alone, and each is matched once, so that a TryFrom is no plainer.
-fn state(input: &mut impl Read) -> Result<ReaderState, ScriptError> {
-    let ending = match byte(input)? {
+pub(crate) fn state(here: &[u8]) -> Option<ReaderState> {
+    let [code, count] = bytes::<2>(here, 0)?;
+    let ending = match code {
         0 => Ending::Open,
         1 => Ending::End,
         2 => Ending::Bad,
         3 => Ending::Cut,
-        _ => return Err(ScriptError::Bad),
+        _ => return None,
     };
-    Ok(ReaderState {
+    Some(ReaderState {
         ending,
-        count: usize::from(byte(input)?),
-        held: bytes(input)?,
+        count: usize::from(count),
+        held: bytes(here, 2)?,
     })
 }
 
-// The next command; none at the end of the script.
-pub(crate) fn next(input: &mut impl Read) -> Result<Option<Command>, ScriptError> {
-    let Some(letter) = input.bytes().next() else {
-        return Ok(None);
-    };
-    let command = match letter? {
-        b'L' => Command::Log(word(input)?),
-        b'N' => Command::New,
-        b'S' => Command::State(state(input)?),
-        b'P' => Command::Piece {
-            from: word(input)?,
-            to: word(input)?,
-        },
-        b'O' => Command::Over,
-        _ => return Err(ScriptError::Bad),
-    };
-    Ok(Some(command))
+// The command that these bytes begin with, and its length; none where they are cut or it is no command.
+pub(crate) fn next(here: &[u8]) -> Option<(Command, usize)> {
+    match here.first()? {
+        b'L' => Some((Command::Log(word(here, 1)?), 5)),
+        b'N' => Some((Command::New, 1)),
+        b'S' => Some((Command::State, 1)),
+        b'P' => {
+            let from = word(here, 1)?;
+            let to = word(here, 5)?;
+            Some((Command::Piece { from, to }, LONGEST))
+        }
+        b'O' => Some((Command::Over, 1)),
+        _ => None,
+    }
 }

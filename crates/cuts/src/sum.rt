@@ -1,4 +1,6 @@
 // Sums of events: each number of a record is mixed in, in the order of the log, its kind first.
+ghost use Rattle.std.specs.Prelude.{◌≡◌, ◌+◌, ◌≤◌};
+
 use rules::event::{Call, Event};
 
 // How many events came, and their sum.
@@ -10,7 +12,9 @@ pub(crate) struct Seen {
 
 impl Seen {
     // A query has no record, and none is found.
-    pub(crate) fn add(&mut self, event: Event) {
+    pub(crate) fn add(&mut self, event: Event)
+        ensures { self.new.events ≤ 1 + self.old.events }
+    {
         self.events = self.events.saturating_add(1);
         match event {
             Event::Call(call) => self.mix_call(call),
@@ -30,7 +34,9 @@ impl Seen {
         }
     }
 
-    fn mix_call(&mut self, call: Call) {
+    fn mix_call(&mut self, call: Call)
+        ensures { self.new.events ≡ self.old.events }
+    {
         self.mix(&[
             1,
             call.process.into(),
@@ -45,7 +51,9 @@ impl Seen {
         ]);
     }
 
-    fn mix(&mut self, numbers: &[u64]) {
+    fn mix(&mut self, numbers: &[u64])
+        ensures { self.new.events ≡ self.old.events }
+    {
         self.sum = numbers
             .iter()
             .fold(self.sum, |sum, number| sum.rotate_left(7) ^ *number);
